@@ -1,0 +1,8 @@
+-- Laws that the layers above cite.
+pub mod Table
+pub mod Build
+pub mod XorLaws
+pub mod ByteLaws
+pub mod PartLaws
+pub mod CopyLaws
+pub mod SameLaws

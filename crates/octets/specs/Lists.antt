@@ -1,0 +1,22 @@
+-- Lists by an index function, and what a copy leaves.
+-- Assumes nothing.
+use Prim.Native.Nat.{ℕ, zero, suc}
+use mathlib.Core.List.{List, [], _∷_, _++_}
+use lib.ListN.{length, getD, take, drop}
+
+-- element i of a list of numbers, and 0 past its end
+abbrev pub at : List ℕ → ℕ → ℕ
+at s i = getD s i 0
+
+-- f i, f (i + 1), .., n numbers
+abbrev pub from : ℕ → ℕ → (ℕ → ℕ) → List ℕ
+from i zero f = []
+from i (suc n) f = f i ∷ from (suc i) n f
+
+-- f 0, .., f (n - 1)
+abbrev pub tab : ℕ → (ℕ → ℕ) → List ℕ
+tab n f = from 0 n f
+
+-- s copied over the start of d, as much of it as d has room for; the rest of d stays
+unfoldable pub over : List ℕ → List ℕ → List ℕ
+over s d = take (length d) s ++ drop (length s) d
