@@ -3,9 +3,10 @@
 use mathlib.Core.Path.{_≡_, refl, sym, ap, ap₂, _∙_}
 use mathlib.Core.List.{List, [], _∷_, _++_}
 use Prim.Native.Nat.{ℕ, zero, suc, _+_, _-_, _*_, _/_, _%_, _^_, _<_, _≤_}
-use native.Mathlib.Nat.{zero-add, suc-add, add-suc, add-zero, add-comm, mul-one, mul-add, mul-suc, div-one, pow-suc, not-suc-le-zero, le-of-suc-le-suc}
+use native.Mathlib.Nat.{zero-add, suc-add, add-suc, add-zero, add-comm, mul-one, mul-add, mul-suc, div-one, pow-suc, not-suc-le-zero, lt-of-lt-of-le, mod-eq-of-lt, mul-comm, mul-le-mul-right, suc-mul}
 use native.Mathlib.Omega.{arith}
-use lib.Pow.{shr-shr, field, mod-mod-pow, high, low}
+use lib.Dec.{lit<}
+use lib.Pow.{pow-add, shr-shr, field, mod-mod-pow, high, low}
 use lib.Bits.{bitXor, xor-shr, xor-mod}
 use lib.ListN.{length, getD, take, drop, length-drop}
 use lib.Seq.{getD-drop, drop-drop, drop-nil}
@@ -111,7 +112,7 @@ unfolding bytesOf
 bytes-mod j zero n = refl
 bytes-mod j (suc k) n = rw (add-suc j k, ← (suc-add j k), byte-mod n j k) (ap (λ (t : List ℕ). n / 2 ^ (8 * k) % 256 ∷ t) (bytes-mod (suc j) k n))
 
-bytes-words : (h l : ℕ) → l < 2 ^ 64 → bytesOf 8 h ++ bytesOf 8 l ≡ bytesOf 16 (h * 2 ^ 64 + l)
+pub bytes-words : (h l : ℕ) → l < 2 ^ 64 → bytesOf 8 h ++ bytesOf 8 l ≡ bytesOf 16 (h * 2 ^ 64 + l)
 bytes-words h l hl =
     ap₂ (λ (a b : ℕ). bytesOf 8 a ++ bytesOf 8 b) (sym (high h 64 hl)) (sym (low h 64 hl))
     ∙ ap (λ (t : List ℕ). bytesOf 8 ((h * 2 ^ 64 + l) / 2 ^ 64) ++ t) (bytes-mod 0 8 (h * 2 ^ 64 + l))
@@ -130,3 +131,49 @@ bytes-xor (suc k) a b =
     ap₂ (λ (x : ℕ) (t : List ℕ). x ∷ t)
     (ap (λ (n : ℕ). n % 256) (xor-shr a b (8 * k)) ∙ xor-mod (a / 2 ^ (8 * k)) (b / 2 ^ (8 * k)) 8)
     (bytes-xor k a b)
+
+-- ---- bytes that are bytes
+
+power : (k : ℕ) → 256 ^ k ≡ 2 ^ (8 * k)
+power zero = refl
+power (suc k) = pow-suc 256 k ∙ ap (λ (n : ℕ). n * 256) (power k) ∙ sym (ap (λ (n : ℕ). 2 ^ n) (mul-suc 8 k) ∙ pow-add 2 (8 * k) 8)
+
+number-cons : (x : ℕ) (s : List ℕ) → number (x ∷ s) ≡ x * 2 ^ (8 * length s) + number s
+unfolding number numberFrom
+number-cons x s = number-from (0 * 256 + x) s ∙ ap₂ (λ (a p : ℕ). a * p + numberFrom 0 s) (zero-add x) (power (length s))
+
+less-cons : (x m p : ℕ) → x < 256 → m < p → x * p + m < p * 256
+less-cons x m p hx hm =
+    let one : x * p + m < suc x * p = omega (arith, suc-mul x p) in
+    let all : suc x * p ≤ 256 * p = mul-le-mul-right p hx in
+    omega arith
+
+number-lt : (s : List ℕ) → ((i : ℕ) → getD s i 0 < 256) → number s < 2 ^ (8 * length s)
+unfolding number numberFrom
+number-lt [] h = lit< tt
+number-lt (x ∷ s) h =
+    rw (number-cons x s, mul-suc 8 (length s), pow-add 2 (8 * length s) 8) (less-cons x (number s) (2 ^ (8 * length s)) (h 0) (number-lt s (λ i. h (suc i))))
+
+-- the bytes that a number is written with are its bytes
+pub bytes-number : (s : List ℕ) → ((i : ℕ) → getD s i 0 < 256) → bytesOf (length s) (number s) ≡ s
+unfolding bytesOf
+bytes-number [] h = refl
+bytes-number (x ∷ s) h =
+    let k = length s in
+    let p = 2 ^ (8 * k) in
+    let lt = number-lt s (λ i. h (suc i)) in
+    ap (λ (n : ℕ). n / p % 256 ∷ bytesOf k n) (number-cons x s)
+    ∙ ap₂ (λ (a : ℕ) (t : List ℕ). a ∷ t)
+    (ap (λ (n : ℕ). n % 256) (high x (8 * k) lt) ∙ mod-eq-of-lt (h 0))
+    (sym (rw (zero-add k) at (bytes-mod 0 k (x * p + number s))) ∙ ap (bytesOf k) (low x (8 * k) lt) ∙ bytes-number s (λ i. h (suc i)))
+
+padded-lt : (k : ℕ) (s : List ℕ) → ((i : ℕ) → getD s i 0 < 256) → (i : ℕ) → getD (padded k s) i 0 < 256
+unfolding padded
+padded-lt zero s h i = lit< tt
+padded-lt (suc k) [] h zero = h 0
+padded-lt (suc k) [] h (suc i) = padded-lt k [] h i
+padded-lt (suc k) (x ∷ s) h zero = h 0
+padded-lt (suc k) (x ∷ s) h (suc i) = padded-lt k s (λ j. h (suc j)) i
+
+pub bytes-padded : (k : ℕ) (s : List ℕ) → ((i : ℕ) → getD s i 0 < 256) → bytesOf k (number (padded k s)) ≡ padded k s
+bytes-padded k s h = ap (λ (n : ℕ). bytesOf n (number (padded k s))) (sym (length-padded k s)) ∙ bytes-number (padded k s) (padded-lt k s h)

@@ -62,7 +62,8 @@ pub fn copy(src: &[u8], dst: &mut [u8])
 // The block that the first 16 bytes of s write.
 fn whole_block(s: &[u8]) -> Block
     requires { ⌜ 16 ≤ length (now s) ⌝ }
-    ensures { λ r. ⌜ num r ≡ number (padded 16 (now (s .entry))) ⌝ }
+    ensures number { λ r. ⌜ num r ≡ number (padded 16 (now (s .entry))) ⌝ }
+    ensures bytes { λ r. ⌜ bytesOf 16 (num r) ≡ padded 16 (now (s .entry)) ⌝ }
 {
     Block {
         hi: word_of(s[0], s[1], s[2], s[3], s[4], s[5], s[6], s[7]),
@@ -72,7 +73,8 @@ fn whole_block(s: &[u8]) -> Block
 
 // The block that the first 16 bytes of s write, with zeros past its end.
 pub fn first_block(s: &[u8]) -> Block
-    ensures { λ r. ⌜ num r ≡ number (padded 16 (now (s .entry))) ⌝ }
+    ensures number { λ r. ⌜ num r ≡ number (padded 16 (now (s .entry))) ⌝ }
+    ensures bytes { λ r. ⌜ bytesOf 16 (num r) ≡ padded 16 (now (s .entry)) ⌝ }
 {
     if 16 <= s.len() {
         return whole_block(s);

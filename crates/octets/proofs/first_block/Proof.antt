@@ -8,7 +8,10 @@ use Rattle.octets.proofs.first_block.Statement.{statement}
 use Rattle.octets.proofs.first_block.Tie as tie
 
 returns-2 : tie.Need-returns-2
-returns-2 c = c .whole-block2 .ensures ∙ ap number (ap (padded 16) (c .before .before .before .copy .ensures) ∙ over-zeros 16 (c .before .before .before .before .before .before .before .args .s .now))
+returns-2 c =
+    let e = ap (padded 16) (c .before .before .before .copy .ensures) ∙ over-zeros 16 (c .before .before .before .before .before .before .before .args .s .now) in
+    let w = c .whole-block2 .ensures in
+    (w .0 ∙ ap number e, w .1 ∙ e)
 
 pub first-block-spec : {M : Type 1} → statement M
 first-block-spec =

@@ -1,0 +1,6 @@
+-- Laws of the round table, of columns, of the rounds and of counter mode.
+pub mod RoundTable
+pub mod ColumnLaws
+pub mod MixLaws
+pub mod RoundLaws
+pub mod CounterLaws
