@@ -3,10 +3,10 @@
 use mathlib.Core.Path.{_≡_, refl, sym, ap, ap₂, _∙_}
 use mathlib.Core.List.{List, [], _∷_, _++_}
 use Prim.Native.Nat.{ℕ, zero, suc, _+_, _-_, _*_, _/_, _%_, _^_, _<_, _≤_}
-use native.Mathlib.Nat.{zero-add, suc-add, add-suc, add-zero, add-comm, mul-one, mul-add, mul-suc, div-one, pow-suc, not-suc-le-zero, lt-of-lt-of-le, mod-eq-of-lt, mul-comm, mul-le-mul-right, suc-mul}
+use native.Mathlib.Nat.{zero-add, suc-add, add-suc, add-zero, add-comm, mul-one, mul-add, mul-suc, div-one, pow-suc, not-suc-le-zero, lt-of-lt-of-le, mod-one, mod-eq-of-lt, mul-comm, mul-le-mul-right, suc-mul}
 use native.Mathlib.Omega.{arith}
 use lib.Dec.{lit<}
-use lib.Pow.{pow-add, shr-shr, field, mod-mod-pow, high, low}
+use lib.Pow.{pow-add, mod-pow-add, shr-shr, field, mod-mod-pow, high, low}
 use lib.Bits.{bitXor, xor-shr, xor-mod}
 use lib.ListN.{length, getD, take, drop, length-drop}
 use lib.Seq.{getD-drop, drop-drop, drop-nil}
@@ -75,7 +75,7 @@ pub number-pairs : (a b c d e f g h : ℕ)
 unfolding number numberFrom
 number-pairs a b c d e f g h = omega arith
 
-eight : (l : List ℕ)
+pub eight : (l : List ℕ)
     → padded 8 l ≡ getD l 0 0 ∷ getD l 1 0 ∷ getD l 2 0 ∷ getD l 3 0 ∷ getD l 4 0 ∷ getD l 5 0 ∷ getD l 6 0 ∷ getD l 7 0 ∷ []
 unfolding padded
 eight l = rw (padded-from 7 0 l, padded-from 6 1 l, padded-from 5 2 l, padded-from 4 3 l, padded-from 3 4 l, padded-from 2 5 l, padded-from 1 6 l, padded-from 0 7 l)
@@ -142,17 +142,18 @@ number-cons : (x : ℕ) (s : List ℕ) → number (x ∷ s) ≡ x * 2 ^ (8 * len
 unfolding number numberFrom
 number-cons x s = number-from (0 * 256 + x) s ∙ ap₂ (λ (a p : ℕ). a * p + numberFrom 0 s) (zero-add x) (power (length s))
 
-less-cons : (x m p : ℕ) → x < 256 → m < p → x * p + m < p * 256
-less-cons x m p hx hm =
+less-cons : (x m p q : ℕ) → x < q → m < p → x * p + m < q * p
+less-cons x m p q hx hm =
     let one : x * p + m < suc x * p = omega (arith, suc-mul x p) in
-    let all : suc x * p ≤ 256 * p = mul-le-mul-right p hx in
-    omega arith
+    let all : suc x * p ≤ q * p = mul-le-mul-right p hx in
+    lt-of-lt-of-le one all
 
 number-lt : (s : List ℕ) → ((i : ℕ) → getD s i 0 < 256) → number s < 2 ^ (8 * length s)
 unfolding number numberFrom
 number-lt [] h = lit< tt
 number-lt (x ∷ s) h =
-    rw (number-cons x s, mul-suc 8 (length s), pow-add 2 (8 * length s) 8) (less-cons x (number s) (2 ^ (8 * length s)) (h 0) (number-lt s (λ i. h (suc i))))
+    rw (number-cons x s, mul-suc 8 (length s), pow-add 2 (8 * length s) 8, mul-comm (2 ^ (8 * length s)) 256)
+    (less-cons x (number s) (2 ^ (8 * length s)) 256 (h 0) (number-lt s (λ i. h (suc i))))
 
 -- the bytes that a number is written with are its bytes
 pub bytes-number : (s : List ℕ) → ((i : ℕ) → getD s i 0 < 256) → bytesOf (length s) (number s) ≡ s
@@ -177,3 +178,17 @@ padded-lt (suc k) (x ∷ s) h (suc i) = padded-lt k s (λ j. h (suc j)) i
 
 pub bytes-padded : (k : ℕ) (s : List ℕ) → ((i : ℕ) → getD s i 0 < 256) → bytesOf k (number (padded k s)) ≡ padded k s
 bytes-padded k s h = ap (λ (n : ℕ). bytesOf n (number (padded k s))) (sym (length-padded k s)) ∙ bytes-number (padded k s) (padded-lt k s h)
+
+-- ---- the number that a number's bytes write
+
+pub number-bytes : (k n : ℕ) → number (bytesOf k n) ≡ n % 2 ^ (8 * k)
+unfolding bytesOf number numberFrom
+number-bytes zero n = sym (mod-one n)
+number-bytes (suc k) n =
+    number-cons (n / 2 ^ (8 * k) % 256) (bytesOf k n)
+    ∙ ap₂ (λ (p q : ℕ). n / 2 ^ (8 * k) % 256 * 2 ^ (8 * p) + q) (length-bytes k n) (number-bytes k n)
+    ∙ sym (ap (λ (j : ℕ). n % 2 ^ j) (mul-suc 8 k ∙ add-comm (8 * k) 8) ∙ mod-pow-add n 8 (8 * k))
+
+-- a block is below 2 ^ 128, so its bytes write it
+pub block-number : (h l : ℕ) → h < 2 ^ 64 → l < 2 ^ 64 → number (bytesOf 16 (h * 2 ^ 64 + l)) ≡ h * 2 ^ 64 + l
+block-number h l hh hl = number-bytes 16 (h * 2 ^ 64 + l) ∙ mod-eq-of-lt (less-cons h l (2 ^ 64) (2 ^ 64) hh hl)

@@ -145,10 +145,10 @@ pub fn same(a: &[u8], b: &[u8]) -> bool
         return false;
     }
     let mut diff: u8 = 0;
-    let mut i = 0;
-    while i < a.len() {
-        diff = diff | (a[i] ^ b[i]);
-        i += 1;
+    let mut k = 0;
+    while k < a.len() {
+        diff = diff | (a[k] ^ b[k]);
+        k += 1;
     }
     diff == 0
 }

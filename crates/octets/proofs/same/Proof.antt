@@ -13,10 +13,10 @@ use Rattle.octets.proofs.same.Statement.{statement}
 use Rattle.octets.proofs.same.Tie as tie
 
 abbrev Inv-loop : tie.InvT-loop
-Inv-loop a b diff₀ i₀ diff i = (length a ≡ length b) × (eqb diff 0 && sameBytes (drop i a) (drop i b) ≡ sameBytes a b)
+Inv-loop a b diff₀ k₀ diff k = (length a ≡ length b) × (eqb diff 0 && sameBytes (drop k a) (drop k b) ≡ sameBytes a b)
 
 abbrev μ-loop : tie.MeasureT-loop
-μ-loop a b diff₀ i₀ diff i = length a - i
+μ-loop a b diff₀ k₀ diff k = length a - k
 
 returns : tie.Need-returns Inv-loop μ-loop
 returns c = sym (same-length (c .before .args .a .now) (c .before .args .b .now) (λ e. c .if1 .taken e))
@@ -25,13 +25,13 @@ loop-again : tie.Need-loop-again Inv-loop μ-loop
 loop-again c =
     let l = c .before .before .before .loop in
     let a = c .before .before .before .before .before .args in
-    (l .inv .0, same-turn (l .diff) (l .i) (a .a .now) (a .b .now) (omega arith) (l .inv .0) ∙ l .inv .1)
+    (l .inv .0, same-turn (l .diff) (l .k) (a .a .now) (a .b .now) (omega arith) (l .inv .0) ∙ l .inv .1)
 
 returns-2 : tie.Need-returns-2 Inv-loop μ-loop
 returns-2 c =
     let l = c .before .loop in
     let a = c .before .before .before .args in
-    sym (same-end (l .diff) (l .i) (a .a .now) (a .b .now) (omega arith) (omega arith)) ∙ l .inv .1
+    sym (same-end (l .diff) (l .k) (a .a .now) (a .b .now) (omega arith) (omega arith)) ∙ l .inv .1
 
 pub same-spec : {M : Type 1} → statement M
 same-spec =
