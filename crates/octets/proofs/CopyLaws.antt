@@ -60,6 +60,11 @@ pub over-room : (s d : List ℕ) → length s ≤ length d → over s d ≡ s ++
 unfolding over
 over-room s d h = ap (λ (l : List ℕ). l ++ drop (length s) d) (take-all (length d) s h)
 
+-- where there is room for just that
+pub over-whole : (s d : List ℕ) → length s ≡ length d → over s d ≡ s
+over-whole s d e =
+    over-room s d (omega arith) ∙ ap (λ (l : List ℕ). s ++ l) (drop-of-length-le d {i = length s} (omega arith)) ∙ append-nil s
+
 -- the sum of a string, padded to the length of k, and k, copied over the string
 pub over-xor : (n : ℕ) (s k : List ℕ) → length k ≡ n → over (xorBytes (padded n s) k) s ≡ xorBytes (take n s) k ++ drop n s
 unfolding over xorBytes padded
