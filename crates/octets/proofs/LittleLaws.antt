@@ -1,14 +1,14 @@
 -- Numbers with the least significant byte first: what their bytes write, and the bytes of what bytes write.
 -- Assumes nothing.
-use mathlib.Core.Path.{_≡_, refl, sym, ap, ap₂, _∙_}
-use mathlib.Core.Bool.{Bool, true, false, _&&_}
-use mathlib.Core.List.{List, [], _∷_, _++_}
+use mathlib.Core.Path.{_≡_, refl, sym, ap, _∙_}
+use mathlib.Core.List.{List, [], _∷_}
 use Prim.Native.Nat.{ℕ, zero, suc, _+_, _*_, _/_, _%_, _^_, _<_, _≤_}
-use native.Mathlib.Nat.{pow-suc, mod-eq-of-lt, mul-le-mul-right, suc-mul}
+use native.Mathlib.Nat.{pow-suc, zero-add, suc-add, not-suc-le-zero, le-of-suc-le-suc}
 use native.Mathlib.Omega.{arith}
 use lib.Dec.{lit<}
 use lib.Pow.{pow-add, mod-pow-add}
-use lib.ListN.{length, getD, take, drop}
+use lib.ListN.{length, getD, drop}
+use lib.Seq.{drop-nil}
 use native.Mathlib.Numerals.{add-one}
 use Rattle.octets.specs.Lists.{at, from, tab}
 use Rattle.octets.specs.Bytes.{padded}
@@ -75,3 +75,26 @@ pub read-little : (k : ℕ) (s : List ℕ) {r : ℕ} → ((i : ℕ) → getD s i
 read-little k s h e =
     let p = e ∙ ap little (from-padded k 0 s) in
     (p, ap (littleBytes k) p ∙ bytes-little-padded k s h)
+
+-- ---- parts of a padded string
+
+pub padded-padded : (j k : ℕ) (s : List ℕ) → j ≤ k → padded j (padded k s) ≡ padded j s
+unfolding padded
+padded-padded zero k s h = refl
+padded-padded (suc j) zero s h = absurd (not-suc-le-zero h)
+padded-padded (suc j) (suc k) [] h = ap (λ (t : List ℕ). 0 ∷ t) (padded-padded j k [] (le-of-suc-le-suc h))
+padded-padded (suc j) (suc k) (x ∷ s) h = ap (λ (t : List ℕ). x ∷ t) (padded-padded j k s (le-of-suc-le-suc h))
+
+pub getD-padded : (k : ℕ) (s : List ℕ) (i : ℕ) → i < k → getD (padded k s) i 0 ≡ getD s i 0
+unfolding padded
+getD-padded zero s i h = absurd (not-suc-le-zero h)
+getD-padded (suc k) [] zero h = refl
+getD-padded (suc k) [] (suc i) h = getD-padded k [] i (le-of-suc-le-suc h)
+getD-padded (suc k) (x ∷ s) zero h = refl
+getD-padded (suc k) (x ∷ s) (suc i) h = getD-padded k s i (le-of-suc-le-suc h)
+
+pub drop-padded : (j k : ℕ) (s : List ℕ) → drop j (padded (j + k) s) ≡ padded k (drop j s)
+unfolding padded
+drop-padded zero k s = ap (λ (n : ℕ). padded n s) (zero-add k)
+drop-padded (suc j) k [] = rw (suc-add j k) (drop-padded j k [] ∙ ap (padded k) (drop-nil j))
+drop-padded (suc j) k (x ∷ s) = rw (suc-add j k) (drop-padded j k s)
