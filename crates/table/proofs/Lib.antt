@@ -1,3 +1,6 @@
 -- Laws that the layers above cite.
 pub mod Arrays
 pub mod EnterLaws
+pub mod TextLaws
+pub mod ReadLaws
+pub mod OrderLaws
