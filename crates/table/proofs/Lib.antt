@@ -4,3 +4,4 @@ pub mod EnterLaws
 pub mod TextLaws
 pub mod ReadLaws
 pub mod OrderLaws
+pub mod EnteredLaws
