@@ -5,3 +5,4 @@ pub mod TextLaws
 pub mod ReadLaws
 pub mod OrderLaws
 pub mod EnteredLaws
+pub mod RoundTrip
