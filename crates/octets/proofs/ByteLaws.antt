@@ -134,7 +134,7 @@ bytes-xor (suc k) a b =
 
 -- ---- bytes that are bytes
 
-power : (k : ℕ) → 256 ^ k ≡ 2 ^ (8 * k)
+pub power : (k : ℕ) → 256 ^ k ≡ 2 ^ (8 * k)
 power zero = refl
 power (suc k) = pow-suc 256 k ∙ ap (λ (n : ℕ). n * 256) (power k) ∙ sym (ap (λ (n : ℕ). 2 ^ n) (mul-suc 8 k) ∙ pow-add 2 (8 * k) 8)
 
@@ -168,7 +168,7 @@ bytes-number (x ∷ s) h =
     (ap (λ (n : ℕ). n % 256) (high x (8 * k) lt) ∙ mod-eq-of-lt (h 0))
     (sym (rw (zero-add k) at (bytes-mod 0 k (x * p + number s))) ∙ ap (bytesOf k) (low x (8 * k) lt) ∙ bytes-number s (λ i. h (suc i)))
 
-padded-lt : (k : ℕ) (s : List ℕ) → ((i : ℕ) → getD s i 0 < 256) → (i : ℕ) → getD (padded k s) i 0 < 256
+pub padded-lt : (k : ℕ) (s : List ℕ) → ((i : ℕ) → getD s i 0 < 256) → (i : ℕ) → getD (padded k s) i 0 < 256
 unfolding padded
 padded-lt zero s h i = lit< tt
 padded-lt (suc k) [] h zero = h 0

@@ -3,6 +3,7 @@ pub mod Table
 pub mod Build
 pub mod XorLaws
 pub mod ByteLaws
+pub mod LittleLaws
 pub mod PartLaws
 pub mod CopyLaws
 pub mod SameLaws

@@ -11,6 +11,8 @@ ghost use Rattle.octets.specs.Lists.{at, over};
 ghost use Rattle.octets.specs.Bytes.{number, bytesOf, padded, sameBytes};
 ghost use Rattle.octets.specs.Blocks.{num};
 
+pub mod little;
+
 // A block of 128 bits: hi holds the leftmost 64.
 pub struct Block {
     pub hi: u64,

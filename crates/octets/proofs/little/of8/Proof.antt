@@ -1,0 +1,31 @@
+-- `octets::little::of8` meets its contract: the sum of the bytes, each times its power of 256. Assumes nothing.
+use Rattle.octets.specs.Little.{little}
+use borrow.Author.Needs.{needs}
+use native.Mathlib.Omega.{arith}
+use Prim.Native.Nat.{_-_}
+use Rattle.octets.proofs.little.of8.Statement.{statement}
+use Rattle.octets.proofs.little.of8.Tie as tie
+
+returns : tie.Need-returns
+unfolding little
+returns c = omega arith
+
+pub of8-spec : {M : Type 1} → statement M
+of8-spec =
+    tie.close
+    (tie.spec
+    (λ c. search needs)
+    (λ c. search needs)
+    (λ c. search needs)
+    (λ c. search needs)
+    (λ c. search needs)
+    (λ c. search needs)
+    (λ c. search needs)
+    (λ c. search needs)
+    (λ c. search needs)
+    (λ c. search needs)
+    (λ c. search needs)
+    (λ c. search needs)
+    (λ c. search needs)
+    (λ c. search needs)
+    returns)
