@@ -19,6 +19,7 @@ use Rattle.aes.proofs.CounterLaws.{gctr-length}
 use Rattle.gcm.specs.Gcm.{maxText, maxData, tagLen, preCounter, onlyIf, cipherText, tagOf, sealed, opened}
 use Rattle.gcm.specs.Answers.{putOver, beyond, sealing, sealPut, textAnswer, textPut, openAnswer, openPut, sealedIn, textIn, opening, openedIn}
 use Rattle.gcm.specs.declared.Sealing.the-variants as S
+use Rattle.gcm.specs.declared.Opening.{Opening}
 use Rattle.gcm.specs.declared.Opening.the-variants as O
 use Rattle.gcm.proofs.SealLaws.{length-cipher-text, length-tag, length-sealed}
 
@@ -124,3 +125,28 @@ module _ (ciph : List ℕ → List ℕ) (dot : ℕ → ℕ) (iv a s t : List ℕ
             (ap O.Text (sym (length-cipher-text ciph whole dot iv (take (length s - 16) s) ∙ length-take-le (length s - 16) s (omega arith)))),
         rw (le-ltb (length s) 16 h, e, le-ltb (length t) (length s - 16) g, w) er,
       )
+
+-- ---- where all lengths are right
+
+pub within : (n d : ℕ) → n ≤ maxText → d ≤ maxData → beyond n d ≡ false
+within n d hn hd = rw (le-ltb maxText n hn, le-ltb maxData d hd)
+
+pub sealed-within : (ciph : List ℕ → List ℕ) (dot : ℕ → ℕ) (iv a : List ℕ) (n : ℕ) (s : List ℕ) → n ≤ maxText → length a ≤ maxData → n + 16 ≤ length s
+    → sealedIn ciph dot iv a n s ≡ putOver (sealed ciph dot iv a (take n s)) s
+sealed-within ciph dot iv a n s hn ha h = sym (seal-done ciph dot iv a n s _ (within n (length a) hn ha) h refl .1)
+
+put-text-answer : (p : Option (List ℕ)) → openPut (textAnswer p) p ≡ textPut p
+unfolding openPut textAnswer textPut
+put-text-answer (some p) = refl
+put-text-answer none = refl
+
+module _ (ciph : List ℕ → List ℕ) (dot : ℕ → ℕ) (iv a s t : List ℕ) (h : 16 ≤ length s) (hs : length s - 16 ≤ maxText) (ha : length a ≤ maxData) (room : length s - 16 ≤ length t) where
+  pub answer-within : opening ciph dot iv a s (length t) ≡ textAnswer (textIn ciph dot iv a s)
+  unfolding opening openAnswer
+  answer-within = rw (le-ltb (length s) 16 h, within (length s - 16) (length a) hs ha, le-ltb (length t) (length s - 16) room)
+
+  pub opened-within : openedIn ciph dot iv a s t ≡ putOver (textPut (textIn ciph dot iv a s)) t
+  unfolding openedIn
+  opened-within =
+      ap (λ (x : Opening). putOver (openPut x (textIn ciph dot iv a s)) t) answer-within
+      ∙ ap (λ (p : List ℕ). putOver p t) (put-text-answer (textIn ciph dot iv a s))

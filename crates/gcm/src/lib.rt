@@ -49,11 +49,11 @@ pub enum Opening {
 }
 
 // The most bytes of a text and of additional data, and the bytes of a tag.
-const MAX_TEXT: usize = 0xf_ffff_ffe0;
+pub const MAX_TEXT: usize = 0xf_ffff_ffe0;
 
-const MAX_DATA: usize = 0x1fff_ffff_ffff_ffff;
+pub const MAX_DATA: usize = 0x1fff_ffff_ffff_ffff;
 
-const TAG_LEN: usize = 16;
+pub const TAG_LEN: usize = 16;
 
 // The pre-counter block of an IV.
 fn pre_counter(iv: [u8; 12]) -> Block
