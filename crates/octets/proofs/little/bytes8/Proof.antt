@@ -2,7 +2,6 @@
 use Rattle.octets.specs.Little.{littleBytes}
 use borrow.Author.Needs.{needs}
 use mathlib.Core.Path.{refl}
-use Prim.Native.Nat.{_-_}
 use Rattle.octets.proofs.little.bytes8.Statement.{statement}
 use Rattle.octets.proofs.little.bytes8.Tie as tie
 

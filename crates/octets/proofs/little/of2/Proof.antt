@@ -2,7 +2,6 @@
 use Rattle.octets.specs.Little.{little}
 use borrow.Author.Needs.{needs}
 use native.Mathlib.Omega.{arith}
-use Prim.Native.Nat.{_-_}
 use Rattle.octets.proofs.little.of2.Statement.{statement}
 use Rattle.octets.proofs.little.of2.Tie as tie
 

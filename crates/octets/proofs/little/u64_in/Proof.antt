@@ -3,7 +3,6 @@ use Rattle.octets.proofs.LittleLaws.{read-little}
 use Rattle.octets.specs.Little.{little}
 use borrow.Author.Needs.{needs}
 use mathlib.Core.Path.{ap, _∙_}
-use Prim.Native.Nat.{_-_}
 use Rattle.octets.proofs.little.u64_in.Statement.{statement}
 use Rattle.octets.proofs.little.u64_in.Tie as tie
 
