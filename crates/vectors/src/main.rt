@@ -11,7 +11,6 @@ ghost use Rattle.vectors.specs.Tally.{Single};
 use gcm::Opening;
 use gcm::Sealing;
 use libc::STDOUT_FILENO;
-use text::Bytes;
 
 // The three sets of vectors.
 enum Set {
@@ -27,22 +26,22 @@ struct Tally {
     refused: u64,
 }
 
-// Whether a field writes n bytes.
-fn exactly(b: Bytes, n: usize) -> bool {
-    b.good & (b.len == n)
+// Whether two blocks are equal.
+fn same_block(a: [u8; 16], b: [u8; 16]) -> bool {
+    octets::same(&a, &b)
 }
 
 // A line of the AES set: set key plaintext ciphertext.
 fn enciphers(line: &[u8]) -> bool {
-    let mut key = [0u8; 16];
-    let mut plain = [0u8; 16];
-    let mut want = [0u8; 16];
-    let k = text::decode(text::field(line, 1), &mut key);
-    let p = text::decode(text::field(line, 2), &mut plain);
-    let c = text::decode(text::field(line, 3), &mut want);
+    let k = text::decode16(text::field(line, 1));
+    let p = text::decode16(text::field(line, 2));
+    let c = text::decode16(text::field(line, 3));
+    let key = k.bytes;
+    let plain = p.bytes;
+    let want = c.bytes;
     let w = aes_key::key_expansion(key);
     let got = octets::block_bytes(aes::encrypt(&w, octets::first_block(&plain)));
-    exactly(k, 16) & exactly(p, 16) & exactly(c, 16) & octets::same(&got, &want)
+    k.good & p.good & c.good & same_block(got, want)
 }
 
 // a, with b behind it, at the start of as many zeros as hold a field and a tag.
@@ -63,9 +62,9 @@ fn seals_to(
     aad: &[u8],
     plain: &[u8],
     want: &[u8],
-    tag: &[u8],
+    tag: [u8; 16],
 ) -> bool {
-    let all = joined(want, tag);
+    let all = joined(want, &tag);
     let mut buf = joined(plain, b"");
     let answer = gcm::prepare(key).seal(iv, aad, &mut buf, plain.len());
     match answer {
@@ -77,23 +76,23 @@ fn seals_to(
 
 // A line of the encryptions: key iv plaintext aad ciphertext tag.
 fn seals(line: &[u8]) -> bool {
-    let mut key = [0u8; 16];
-    let mut iv = [0u8; 12];
+    let k = text::decode16(text::field(line, 0));
+    let v = text::decode12(text::field(line, 1));
+    let t = text::decode16(text::field(line, 5));
+    let key = k.bytes;
+    let iv = v.bytes;
+    let tag = t.bytes;
     let mut plain = [0u8; 128];
     let mut aad = [0u8; 128];
     let mut want = [0u8; 128];
-    let mut tag = [0u8; 16];
-    let k = text::decode(text::field(line, 0), &mut key);
-    let v = text::decode(text::field(line, 1), &mut iv);
     let p = text::decode(text::field(line, 2), &mut plain);
     let a = text::decode(text::field(line, 3), &mut aad);
     let c = text::decode(text::field(line, 4), &mut want);
-    let t = text::decode(text::field(line, 5), &mut tag);
     let n = p.len;
     let d = a.len;
     let m = c.len;
-    let right = seals_to(key, iv, &aad[..d], &plain[..n], &want[..m], &tag);
-    right & exactly(k, 16) & exactly(v, 12) & p.good & a.good & c.good & exactly(t, 16)
+    let right = seals_to(key, iv, &aad[..d], &plain[..n], &want[..m], tag);
+    right & k.good & v.good & p.good & a.good & c.good & t.good
 }
 
 // Whether the decryption of text and tag is want, or fails where it is to fail. Of the lent buffer only what want covers
@@ -103,7 +102,7 @@ fn opens_to(
     iv: [u8; 12],
     aad: &[u8],
     cipher: &[u8],
-    tag: &[u8],
+    tag: [u8; 16],
     want: &[u8],
     fails: bool,
 ) -> bool {
@@ -112,7 +111,7 @@ fn opens_to(
         return false;
     }
     let e = n + 16;
-    let sealed = joined(cipher, tag);
+    let sealed = joined(cipher, &tag);
     let mut out = [0xa5u8; 128];
     let mut all = out;
     octets::copy(want, &mut all);
@@ -128,24 +127,24 @@ fn opens_to(
 
 // A line of the decryptions: key iv ciphertext aad tag plaintext, or FAIL for the plaintext.
 fn opens(line: &[u8]) -> bool {
-    let mut key = [0u8; 16];
-    let mut iv = [0u8; 12];
+    let k = text::decode16(text::field(line, 0));
+    let v = text::decode12(text::field(line, 1));
+    let t = text::decode16(text::field(line, 4));
+    let key = k.bytes;
+    let iv = v.bytes;
+    let tag = t.bytes;
     let mut cipher = [0u8; 128];
     let mut aad = [0u8; 128];
-    let mut tag = [0u8; 16];
     let mut want = [0u8; 128];
-    let k = text::decode(text::field(line, 0), &mut key);
-    let v = text::decode(text::field(line, 1), &mut iv);
     let c = text::decode(text::field(line, 2), &mut cipher);
     let a = text::decode(text::field(line, 3), &mut aad);
-    let t = text::decode(text::field(line, 4), &mut tag);
     let p = text::decode(text::field(line, 5), &mut want);
     let n = c.len;
     let d = a.len;
     let m = p.len;
     let fails = refused(line);
-    let right = opens_to(key, iv, &aad[..d], &cipher[..n], &tag, &want[..m], fails);
-    right & exactly(k, 16) & exactly(v, 12) & c.good & a.good & exactly(t, 16) & (p.good | fails)
+    let right = opens_to(key, iv, &aad[..d], &cipher[..n], tag, &want[..m], fails);
+    right & k.good & v.good & c.good & a.good & t.good & (p.good | fails)
 }
 
 // Whether NIST has the decryption fail.

@@ -13,6 +13,17 @@ pub struct Bytes {
     pub good: bool,
 }
 
+// A field of 16 bytes, as a key, a block or a tag, and of 12, as an IV.
+pub struct Sixteen {
+    pub bytes: [u8; 16],
+    pub good: bool,
+}
+
+pub struct Twelve {
+    pub bytes: [u8; 12],
+    pub good: bool,
+}
+
 // The value of a hexadecimal digit, and 16 for any other byte.
 fn digit(c: u8) -> u8
     ensures { λ r. ⌜ r ≡ digitValue c ⌝ }
@@ -106,5 +117,25 @@ pub fn decode(s: &[u8], out: &mut [u8]) -> Bytes
     Bytes {
         len: 0,
         good: false,
+    }
+}
+
+// A field that is to write 16 bytes.
+pub fn decode16(s: &[u8]) -> Sixteen {
+    let mut bytes = [0u8; 16];
+    let b = decode(s, &mut bytes);
+    Sixteen {
+        bytes,
+        good: b.good & (b.len == 16),
+    }
+}
+
+// A field that is to write 12 bytes.
+pub fn decode12(s: &[u8]) -> Twelve {
+    let mut bytes = [0u8; 12];
+    let b = decode(s, &mut bytes);
+    Twelve {
+        bytes,
+        good: b.good & (b.len == 12),
     }
 }
