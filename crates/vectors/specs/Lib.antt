@@ -1,0 +1,3 @@
+-- Hex: hexadecimal digits. Tally: what one line adds to a tally.
+pub mod Hex
+pub mod Tally
