@@ -1,0 +1,73 @@
+// A text in its frame: head, ciphertext, tag, and a trailer with the whole length.
+ghost use mathlib.Core.Path.{_≡_};
+ghost use Prim.Native.Nat.{_+_, _-_, _≤_};
+ghost use lib.ListN.{length, take};
+ghost use Rattle.aes.specs.Cipher.{cipher};
+ghost use Rattle.ghash.specs.Multiples.{productBy};
+ghost use Rattle.gcm.specs.Gcm.{tagLen};
+ghost use Rattle.gcm.specs.Answers.{putOver, textPut};
+ghost use Rattle.sealed.specs.Aead.{gcmBy};
+ghost use Rattle.sealed.specs.Frame.{frameLen, framed, unframed, isSome, isText};
+use gcm::Opening;
+use octets::little;
+
+// The bytes of a head, of a trailer, and of all that a frame adds to its text.
+pub const HEAD_LEN: usize = 20;
+
+pub const TRAILER_LEN: usize = 4;
+
+pub const FRAME_LEN: usize = HEAD_LEN + gcm::TAG_LEN + TRAILER_LEN;
+
+// Whether opening gave a text.
+fn is_text(answer: Opening) -> bool
+    ensures { λ r. ⌜ r ≡ isText answer ⌝ }
+{
+    match answer {
+        Opening::Text(_) => true,
+        Opening::Fail => false,
+        Opening::Short(_) => false,
+        Opening::Long => false,
+    }
+}
+
+// Whether s is a text in its frame; the text is put at the start of out.
+pub fn unframe<'a>(
+    w: &'a [u32; 44],
+    m: &'a [u64; 1024],
+    nonce: [u8; 12],
+    s: &[u8],
+    out: &mut [u8],
+) -> bool
+    requires { ⌜ (frameLen ≤ length (now s)) × (length (now s) ≤ 65536) × (length (now s) - frameLen ≤ length (now out)) ⌝ }
+    ensures answer { λ r. ⌜ r ≡ isSome (unframed (gcmBy (cipher (now (w .entry))) (productBy (now (m .entry)))) nonce (now (s .entry))) ⌝ }
+    ensures buffer { λ r. ⌜ now (out .exit) ≡ putOver (textPut (unframed (gcmBy (cipher (now (w .entry))) (productBy (now (m .entry)))) nonce (now (s .entry)))) (now (out .entry)) ⌝ }
+{
+    let e = s.len() - TRAILER_LEN;
+    let trailer = little::u32_in(&s[e..]);
+    if trailer as usize != s.len() {
+        return false;
+    }
+    is_text(gcm::open_with(w, m, nonce, &s[..HEAD_LEN], &s[HEAD_LEN..e], out))
+}
+
+// Seals the first n bytes of body in their place, and puts them in their frame at the start of out.
+pub fn put_framed<'a>(
+    w: &'a [u32; 44],
+    m: &'a [u64; 1024],
+    nonce: [u8; 12],
+    head: [u8; 20],
+    body: &mut [u8],
+    n: usize,
+    out: &mut [u8],
+)
+    requires { ⌜ (n ≤ 65536) × (n + tagLen ≤ length (now body)) × (n + frameLen ≤ length (now out)) ⌝ }
+    ensures { λ _. ⌜ now (out .exit) ≡ putOver (framed (gcmBy (cipher (now (w .entry))) (productBy (now (m .entry)))) nonce head (take n (now (body .entry)))) (now (out .entry)) ⌝ }
+{
+    gcm::seal_with(w, m, nonce, &head, body, n);
+    let e = n + gcm::TAG_LEN;
+    let f = HEAD_LEN + e;
+    let trailer = little::bytes4((n + FRAME_LEN) as u32);
+    octets::copy(&head, out);
+    octets::copy(&body[..e], &mut out[HEAD_LEN..]);
+    octets::copy(&trailer, &mut out[f..]);
+}

@@ -1,0 +1,8 @@
+// Log records and checkpoint files (01, Layouts): sealed into the start of a lent buffer, and opened from a slice.
+//
+// Both are a text in a frame: a head of 20 bytes, which is authenticated, the ciphertext, its tag, and a trailer that
+// holds the whole length. The key is lent as its two prepared parts (see gcm), whatever they are. Sealing encrypts in a
+// buffer of its own and copies. Opening hands the numbers over as an enum, and the text or the table beside it.
+pub mod file;
+mod frame;
+pub mod record;
