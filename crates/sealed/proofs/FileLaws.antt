@@ -232,7 +232,7 @@ unfolding padded
 padded-front [] y = refl
 padded-front (z ∷ x) y = ap (λ (t : List ℕ). z ∷ t) (padded-front x y)
 
-number-front : (k n : ℕ) (y : List ℕ) → n < 256 ^ k → little (padded k (littleBytes k n ++ y)) ≡ n
+pub number-front : (k n : ℕ) (y : List ℕ) → n < 256 ^ k → little (padded k (littleBytes k n ++ y)) ≡ n
 number-front k n y h =
     ap (λ (i : ℕ). little (padded i (littleBytes k n ++ y))) (sym (length-little k n))
     ∙ ap little (padded-front (littleBytes k n) y) ∙ little-fits k n h

@@ -3,4 +3,5 @@
 pub mod FrameLaws
 pub mod FrameTrip
 pub mod RecordLaws
+pub mod RecordTrip
 pub mod FileLaws
