@@ -16,6 +16,6 @@ for test in vectors differential; do
     gcc -O2 -Wall -Wextra -Werror -o "$built/$test" "$here/$test.c" "$library" -lcrypto
 done
 
-"$built/vectors" "$here/vectors/aes-128-ecb.txt" \
-    "$here/vectors/gcm-encrypt-128.txt" "$here/vectors/gcm-decrypt-128.txt"
+data=crates/vectors/data
+"$built/vectors" "$data/aes-128-ecb.txt" "$data/gcm-encrypt-128.txt" "$data/gcm-decrypt-128.txt"
 "$built/differential" "$@"
