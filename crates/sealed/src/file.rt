@@ -9,13 +9,17 @@ ghost use Rattle.sealed.specs.Aead.{gcmBy};
 ghost use Rattle.sealed.specs.Checkpoint.{fileHead, fileNonce, fileBytes, fileAnswer, filePut, legalFile, openFile, shownFile};
 use super::frame;
 use super::frame::FRAME_LEN;
+use super::frame::HEAD_LEN;
 use octets::little;
+use table::TABLE_LEN;
 use table::Table;
 
 // The kind of a checkpoint file, and its length.
 pub const FILE_KIND: u8 = 2;
 
-pub const FILE_LEN: usize = table::TABLE_LEN + FRAME_LEN;
+pub const FILE_LEN: usize = TABLE_LEN + FRAME_LEN;
+// A table's text with its tag.
+const BODY_LEN: usize = TABLE_LEN + gcm::TAG_LEN;
 
 // What a file's head says, where the file opens.
 pub enum FileHead {
@@ -38,7 +42,7 @@ pub enum FilePut {
 }
 
 // The 20 bytes of a head.
-fn head_of(version: u64, seal: u64) -> [u8; 20]
+fn head_of(version: u64, seal: u64) -> [u8; HEAD_LEN]
     ensures { λ r. ⌜ r ≡ fileHead version seal ⌝ }
 {
     let v = little::bytes8(version);
@@ -118,7 +122,7 @@ pub fn open_file<'a>(w: &'a [u32; 44], m: &'a [u64; 1024], s: &[u8]) -> FileRead
     }
     let version = little::u64_in(&s[4..]);
     let seal = little::u64_in(&s[12..]);
-    let mut text = [0u8; 6144];
+    let mut text = [0u8; TABLE_LEN];
     if !frame::unframe(w, m, nonce_of(seal), s, &mut text) {
         return closed();
     }
@@ -148,7 +152,7 @@ pub fn seal_file<'a>(
     if out.len() < FILE_LEN {
         return FilePut::Short(FILE_LEN);
     }
-    let mut body = [0u8; 6160];
+    let mut body = [0u8; BODY_LEN];
     table::put_text(t, &mut body);
     frame::put_framed(
         w,
@@ -156,7 +160,7 @@ pub fn seal_file<'a>(
         nonce_of(seal),
         head_of(version, seal),
         &mut body,
-        table::TABLE_LEN,
+        TABLE_LEN,
         out,
     );
     FilePut::Done(FILE_LEN)

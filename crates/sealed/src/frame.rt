@@ -55,7 +55,7 @@ pub fn put_framed<'a>(
     w: &'a [u32; 44],
     m: &'a [u64; 1024],
     nonce: [u8; 12],
-    head: [u8; 20],
+    head: [u8; HEAD_LEN],
     body: &mut [u8],
     n: usize,
     out: &mut [u8],
