@@ -1,7 +1,9 @@
 #!/usr/bin/env bash
-# Builds what is measured, and measures it beside other libraries.
+# Builds what is measured, and measures it beside other libraries and beside the bare cipher.
 set -euo pipefail
 cd "$(dirname "$0")/.."
 
-rt staticlib cipher_c | tail -n 1
+for library in cipher_c sealed_c; do
+    rt staticlib $library | tail -n 1
+done
 sh bench/run.sh

@@ -1,12 +1,16 @@
 #!/bin/sh
-# Benchmark of the cipher's static library against other libraries.
-# Run from the repository's top; the library is built before.
+# Benchmark of the cipher's static library against other libraries, and of
+# records, files and the table against the bare cipher.
+# Run from the repository's top; the libraries are built before.
 set -eu
 
 library=target/staticlib/libcipher_c.a
+sealed=target/staticlib/libsealed_c.a
 built=target/bench
 
-[ -f "$library" ] || { echo "$library is missing: build it first" >&2; exit 1; }
+for needed in "$library" "$sealed"; do
+    [ -f "$needed" ] || { echo "$needed is missing: build it first" >&2; exit 1; }
+done
 sh tests/cipher/packages.sh gcc libc6-dev libssl-dev libmbedtls-dev libbearssl-dev \
     nettle-dev libgcrypt20-dev
 mkdir -p "$built"
@@ -15,4 +19,8 @@ mkdir -p "$built"
 gcc -O2 -Wall -Wextra -Werror -rdynamic -Itests/cipher -o "$built/cipher" bench/cipher.c \
     "$library" -lcrypto -lmbedcrypto -lbearssl -lnettle -lgcrypt
 
+gcc -O2 -Wall -Wextra -Werror -Itests/cipher -Itests/sealed -o "$built/sealed" bench/sealed.c "$library" "$sealed"
+
 "$built/cipher"
+echo
+"$built/sealed"

@@ -2,13 +2,14 @@
 -- text is not a transaction, or not a table; 5 there is no such lane; 9 the bytes do not open. Where something that is put out is refused,
 -- the lent buffer is as it came.
 -- Assumes nothing.
-use Prim.Native.Nat.{ℕ}
+use Prim.Native.Nat.{ℕ, zero, suc, _*_, _/_}
 use mathlib.Core.Bool.{cond}
 use mathlib.Core.List.{List}
-use lib.ListN.{length}
+use lib.ListN.{length, take, drop}
 use Rattle.octets.specs.Lists.{over}
 use Rattle.gcm.specs.Answers.{putOver}
-use Rattle.reading.specs.Transaction.{legal}
+use Rattle.reading.specs.Transaction.{maxText, legal}
+use Rattle.table.specs.declared.Table.{Table}
 use Rattle.table.specs.Table.{entered}
 use Rattle.table.specs.TableText.{tableText, isTable, tableFrom}
 use Rattle.sealed.specs.Aead.{Aead}
@@ -56,3 +57,14 @@ enterNumber text s = cond (isTable text) (cond (legal s) 0 4) 4
 
 unfoldable pub enterBuffer : List ℕ → List ℕ → ℕ → ℕ → List ℕ
 enterBuffer text s lane number = cond (isTable text) (cond (legal s) (over (tableText (entered (tableFrom text) s lane number)) text) text) text
+
+-- the table t after the first k of transactions of the most writes that stand end to end, all of a lane and number
+unfoldable pub enteredTo : Table → List ℕ → ℕ → ℕ → ℕ → Table
+enteredTo t s lane number zero = t
+enteredTo t s lane number (suc k) = entered (enteredTo t s lane number k) (take maxText (drop (maxText * k) s)) lane number
+
+unfoldable pub eachNumber : List ℕ → ℕ
+eachNumber text = cond (isTable text) 0 4
+
+unfoldable pub eachBuffer : List ℕ → List ℕ → ℕ → ℕ → List ℕ
+eachBuffer text s lane number = cond (isTable text) (over (tableText (enteredTo (tableFrom text) s lane number (length s / maxText))) text) text

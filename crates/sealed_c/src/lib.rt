@@ -15,7 +15,7 @@ ghost use Rattle.sealed.specs.Aead.{gcmBy};
 ghost use Rattle.sealed.specs.Record.{recordAnswer, recordPut, recordBytes, openRecord, shownRecord};
 ghost use Rattle.sealed.specs.Log.{recordAt};
 ghost use Rattle.sealed.specs.Checkpoint.{openFile, shownFile};
-ghost use Rattle.sealed_c.specs.Boundary.{recordCode, recordReply, fileCode, fileReply, putFileNumber, putFileBuffer, enterNumber, enterBuffer};
+ghost use Rattle.sealed_c.specs.Boundary.{recordCode, recordReply, fileCode, fileReply, putFileNumber, putFileBuffer, enterNumber, enterBuffer, eachNumber, eachBuffer};
 use sealed::file;
 use sealed::file::FileHead;
 use sealed::file::FilePut;
@@ -233,6 +233,31 @@ pub extern "C" fn sealed_enter(text: &mut [u8], s: &[u8], lane: u8, number: u64)
         return 4;
     }
     let t = table::enter(read.table, s, lane, number);
+    table::put_text(t, text);
+    0
+}
+
+// Enters transactions of the most writes, which stand end to end, all under one lane and number, into the table whose
+// text is given, and puts its text back: for the bench.
+#[no_mangle]
+pub extern "C" fn sealed_enter_each(text: &mut [u8], s: &[u8], lane: u8, number: u64) -> u64
+    ensures answer { λ r. ⌜ r ≡ eachNumber (now (text .entry)) ⌝ }
+    ensures buffer { λ r. ⌜ now (text .exit) ≡ eachBuffer (now (text .entry)) (now (s .entry)) lane number ⌝ }
+{
+    let read = table::table_in(text);
+    if !read.legal {
+        return 4;
+    }
+    let mut t = read.table;
+    let n = s.len() / reading::MAX_TEXT;
+    let mut k: usize = 0;
+    while k < n {
+        let at = reading::MAX_TEXT * k;
+        let e = at + reading::MAX_TEXT;
+        let next = table::enter(t, &s[at..e], lane, number);
+        t = next;
+        k += 1;
+    }
     table::put_text(t, text);
     0
 }
