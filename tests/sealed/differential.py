@@ -123,7 +123,7 @@ def lane():
 
 
 def no_lane():
-    return rnd.choice((8, 9, 16, 128, 255, rnd.randint(8, 255)))
+    return rnd.choice((8, 8, 8, 9, 128, 255, rnd.randint(8, 255)))
 
 
 def stamp():
@@ -437,7 +437,7 @@ def case_enter(key):
     seen["entering is refused" if answer else "entering changes the table" if after != given else "entering changes nothing"] += 1
 
 
-CASES = ((case_prepare, 2), (case_put_record, 30), (case_open_record, 33), (case_open_at, 15), (case_put_file, 4), (case_open_file, 7),
+CASES = ((case_prepare, 2), (case_put_record, 28), (case_open_record, 31), (case_open_at, 15), (case_put_file, 4), (case_open_file, 11),
          (case_enter, 9))
 
 # what 10,000 cases must have shown

@@ -1,0 +1,197 @@
+/* Benchmark of records and checkpoint files beside the bare cipher on the same
+   bytes: what layout, checks and copies cost on top of it.
+
+   Each row is a piece of work and the cipher's part of it.  The two take turns
+   over several rounds, and a time is the least of its rounds.  A table crosses
+   the boundary as its text, so a checkpoint's times hold reading that text
+   before sealing, and writing it after opening. */
+
+#define _POSIX_C_SOURCE 199309L
+
+#include "cipher.h"
+#include "sealed.h"
+
+#include <stdio.h>
+#include <stdlib.h>
+#include <string.h>
+#include <time.h>
+
+enum {
+    KEY = 16, NONCE = 12, AAD = 20, TAG = 16, FRAME = 40,
+    WRITES = 16, TEXT = 8 + 8 * WRITES, RECORD = TEXT + FRAME,
+    METERS = 256, ENTRY = 24, TABLE = METERS * ENTRY, FILE_LEN = TABLE + FRAME,
+    ROUNDS = 25
+};
+
+static const double batch_ns = 5e6;
+
+static struct cipher_key key;
+static uint8_t text[TEXT], record[RECORD], record_text[TEXT];
+static uint8_t table[TABLE], file[FILE_LEN], file_table[TABLE];
+static uint8_t bare_record[TEXT + TAG], bare_file[TABLE + TAG];
+static uint8_t record_nonce[NONCE] = { 1, 3, 0, 0, 2, 1 }, file_nonce[NONCE] = { 2, 0, 0, 0, 9 };
+
+static void check(int right, const char *what)
+{
+    if (right)
+        return;
+    fprintf(stderr, "bench: %s went wrong\n", what);
+    exit(1);
+}
+
+/* ---- the work ---- */
+
+static int seal_record(void)
+{
+    return sealed_put_record(key.schedule, key.multiples, 3, 7, 258, text, TEXT, record, RECORD) == SEALED_DONE;
+}
+
+static int open_record(void)
+{
+    return sealed_open_record(key.schedule, key.multiples, record, RECORD, record_text, TEXT).code == SEALED_DONE;
+}
+
+static int seal_file(void)
+{
+    return sealed_put_file(key.schedule, key.multiples, 8, 9, table, TABLE, file, FILE_LEN) == SEALED_DONE;
+}
+
+static int open_file(void)
+{
+    return sealed_open_file(key.schedule, key.multiples, file, FILE_LEN, file_table, TABLE).code == SEALED_DONE;
+}
+
+/* ---- the cipher's part of it ---- */
+
+static int bare_seal_record(void)
+{
+    return cipher_seal(key.schedule, key.multiples, record_nonce, NONCE, record, AAD,
+                       bare_record, sizeof bare_record, TEXT) == CIPHER_DONE;
+}
+
+static int bare_open_record(void)
+{
+    return cipher_open(key.schedule, key.multiples, record_nonce, NONCE, record, AAD,
+                       record + AAD, TEXT + TAG, record_text, TEXT) == CIPHER_DONE;
+}
+
+static int bare_seal_file(void)
+{
+    return cipher_seal(key.schedule, key.multiples, file_nonce, NONCE, file, AAD,
+                       bare_file, sizeof bare_file, TABLE) == CIPHER_DONE;
+}
+
+static int bare_open_file(void)
+{
+    return cipher_open(key.schedule, key.multiples, file_nonce, NONCE, file, AAD,
+                       file + AAD, TABLE + TAG, file_table, TABLE) == CIPHER_DONE;
+}
+
+static struct row {
+    const char *name;
+    int (*work[2])(void);               /* the whole, and the cipher's part */
+    double best[2];
+} rows[] = {
+    { "seal a record of 16 writes", { seal_record, bare_seal_record }, { 0, 0 } },
+    { "open a record of 16 writes", { open_record, bare_open_record }, { 0, 0 } },
+    { "seal a checkpoint", { seal_file, bare_seal_file }, { 0, 0 } },
+    { "open a checkpoint", { open_file, bare_open_file }, { 0, 0 } },
+};
+
+enum { ROWS = sizeof rows / sizeof rows[0] };
+
+/* ---- what is worked on ---- */
+
+static void fill(uint8_t *to, size_t n)
+{
+    static uint64_t state = 0x5eed;
+    for (size_t i = 0; i < n; i++) {
+        state ^= state << 13;
+        state ^= state >> 7;
+        state ^= state << 17;
+        to[i] = (uint8_t)(state >> 32);
+    }
+}
+
+/* A transaction of 16 writes, and a table in which every meter has a reading. */
+static void make_work(void)
+{
+    uint8_t bytes[KEY];
+    fill(bytes, KEY);
+    check(cipher_prepare(bytes, KEY, key.schedule, key.multiples) == CIPHER_DONE, "preparing a key");
+    fill(text, TEXT);
+    for (int i = 0; i < WRITES; i++) {
+        uint8_t *w = text + 8 + 8 * i;
+        w[0] = (uint8_t)(16 * i + 5);
+        w[1] = 0;
+        w[2] = (uint8_t)(1 + i % 4);
+        w[3] = 0;
+    }
+    fill(table, TABLE);
+    for (int i = 0; i < METERS; i++) {
+        uint8_t *e = table + ENTRY * i;
+        e[20] = (uint8_t)(1 + i % 4);
+        e[21] = (uint8_t)(i % 8);
+        e[22] = 1;
+        e[23] = 0;
+    }
+}
+
+/* Both seal to the same bytes, and both open to what was sealed. */
+static void check_work(void)
+{
+    check(seal_record() && seal_file(), "sealing");
+    memcpy(bare_record, text, TEXT);
+    memcpy(bare_file, table, TABLE);
+    check(bare_seal_record() && !memcmp(bare_record, record + AAD, TEXT + TAG), "sealing a record's text");
+    check(bare_seal_file() && !memcmp(bare_file, file + AAD, TABLE + TAG), "sealing a checkpoint's text");
+    check(open_record() && !memcmp(record_text, text, TEXT), "opening a record");
+    check(open_file() && !memcmp(file_table, table, TABLE), "opening a checkpoint");
+    memset(record_text, 0, TEXT);
+    memset(file_table, 0, TABLE);
+    check(bare_open_record() && !memcmp(record_text, text, TEXT), "opening a record's text");
+    check(bare_open_file() && !memcmp(file_table, table, TABLE), "opening a checkpoint's text");
+}
+
+/* ---- the clock ---- */
+
+static double now_ns(void)
+{
+    struct timespec t;
+    clock_gettime(CLOCK_MONOTONIC, &t);
+    return 1e9 * (double)t.tv_sec + (double)t.tv_nsec;
+}
+
+static double batch(int (*work)(void), long times)
+{
+    int right = 1;
+    double start = now_ns();
+    for (long i = 0; i < times; i++)
+        right &= work();
+    double ns = (now_ns() - start) / (double)times;
+    check(right, "measured work");
+    return ns;
+}
+
+static void run_in_turn(struct row *r)
+{
+    for (int i = 0; i < 2; i++) {
+        double t = batch(r->work[i], (long)(batch_ns / batch(r->work[i], 20)) + 1);
+        if (r->best[i] == 0 || t < r->best[i])
+            r->best[i] = t;
+    }
+}
+
+int main(void)
+{
+    make_work();
+    check_work();
+    for (int round = 0; round < ROUNDS; round++)
+        for (int i = 0; i < ROWS; i++)
+            run_in_turn(&rows[i]);
+    printf("%-28s %10s %10s %8s\n", "", "ns", "cipher ns", "ratio");
+    for (int i = 0; i < ROWS; i++)
+        printf("%-28s %10.0f %10.0f %8.2f\n", rows[i].name, rows[i].best[0], rows[i].best[1],
+               rows[i].best[0] / rows[i].best[1]);
+    return 0;
+}
