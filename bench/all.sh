@@ -1,9 +1,8 @@
 #!/usr/bin/env bash
-# Builds what is measured, and measures it beside other libraries and beside the bare cipher.
+# Builds what is measured, and measures it: the cipher beside other libraries, what seals beside the cipher.
 set -euo pipefail
 cd "$(dirname "$0")/.."
 
-for library in cipher_c sealed_c; do
-    rt staticlib $library | tail -n 1
-done
+rt staticlib cipher_c | tail -n 1
+rt staticlib sealed_c | tail -n 1
 sh bench/run.sh

@@ -1,15 +1,14 @@
 #!/bin/sh
-# Benchmark of the cipher's static library against other libraries, and of
-# records, files and the table against the bare cipher.
-# Run from the repository's top; the libraries are built before.
+# Benchmarks of the static libraries: the cipher against other libraries, and records and checkpoint files against the
+# bare cipher. Run from the repository's top; the libraries are built before.
 set -eu
 
 library=target/staticlib/libcipher_c.a
 sealed=target/staticlib/libsealed_c.a
 built=target/bench
 
-for needed in "$library" "$sealed"; do
-    [ -f "$needed" ] || { echo "$needed is missing: build it first" >&2; exit 1; }
+for each in "$library" "$sealed"; do
+    [ -f "$each" ] || { echo "$each is missing: build it first" >&2; exit 1; }
 done
 sh tests/cipher/packages.sh gcc libc6-dev libssl-dev libmbedtls-dev libbearssl-dev \
     nettle-dev libgcrypt20-dev
@@ -18,8 +17,7 @@ mkdir -p "$built"
 # -rdynamic lets the program's answer about the CPU stand before mbedTLS's own.
 gcc -O2 -Wall -Wextra -Werror -rdynamic -Itests/cipher -o "$built/cipher" bench/cipher.c \
     "$library" -lcrypto -lmbedcrypto -lbearssl -lnettle -lgcrypt
-
-gcc -O2 -Wall -Wextra -Werror -Itests/cipher -Itests/sealed -o "$built/sealed" bench/sealed.c "$library" "$sealed"
+gcc -O2 -Wall -Wextra -Werror -Itests/cipher -Itests/sealed -o "$built/sealed" bench/sealed.c "$sealed" "$library"
 
 "$built/cipher"
 echo

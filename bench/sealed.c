@@ -1,11 +1,14 @@
-/* Benchmark of log records, checkpoint files and the table, each beside the
-   bare cipher's time on the same bytes, in one run.
+/* Benchmark of records and checkpoint files beside the bare cipher on the same
+   bytes: what layout, checks and copies cost on top of it.
 
-   The pieces of work take turns over several rounds, and a piece's time is the
-   least of its rounds: on a machine that others use too, the least repeats
-   best. */
+   Each row is a piece of work and the cipher's part of it.  The two take turns
+   over several rounds, and a time is the least of its rounds.  A table crosses
+   the boundary as its text, so a checkpoint's times hold reading that text
+   before sealing, and writing it after opening.  The last row enters the
+   transactions of a full log into a table; the cipher's time beside it is that
+   of opening them. */
 
-#define _GNU_SOURCE
+#define _POSIX_C_SOURCE 199309L
 
 #include "cipher.h"
 #include "sealed.h"
@@ -16,107 +19,163 @@
 #include <time.h>
 
 enum {
-    HEAD = 20,
-    TAG = 16,
-    FRAME = 40,
-    TEXT = 136,             /* a transaction of 16 writes */
-    TABLE = 6144,
-    RECORDS = 1489,         /* that many fill a log of 262,144 bytes */
-    ROUNDS = 15
+    KEY = 16, NONCE = 12, AAD = 20, TAG = 16, FRAME = 40,
+    WRITES = 16, TEXT = 8 + 8 * WRITES, RECORD = TEXT + FRAME,
+    METERS = 256, ENTRY = 24, TABLE = METERS * ENTRY, FILE_LEN = TABLE + FRAME,
+    LOG = 1489,                         /* so many such records fill a log of 262,144 bytes */
+    ROUNDS = 25
 };
 
-static struct cipher_key key;
-static uint8_t text[TEXT], record[TEXT + FRAME], file[TABLE + FRAME], table[TABLE];
-static uint8_t texts[RECORDS * TEXT];
-static uint8_t nonce[12], bare_record[TEXT + TAG], bare_file[TABLE + TAG];
+static const double batch_ns = 5e6;
 
-static void die(const char *what)
+static struct cipher_key key;
+static uint8_t text[TEXT], record[RECORD], record_text[TEXT];
+static uint8_t table[TABLE], file[FILE_LEN], file_table[TABLE];
+static uint8_t bare_record[TEXT + TAG], bare_file[TABLE + TAG];
+static uint8_t texts[LOG * TEXT];
+static uint8_t record_nonce[NONCE] = { 1, 3, 0, 0, 2, 1 }, file_nonce[NONCE] = { 2, 0, 0, 0, 9 };
+
+static void check(int right, const char *what)
 {
-    fprintf(stderr, "bench: %s\n", what);
+    if (right)
+        return;
+    fprintf(stderr, "bench: %s went wrong\n", what);
     exit(1);
 }
 
-static void must(int good, const char *what)
+/* ---- the work ---- */
+
+static int seal_record(void)
 {
-    if (!good)
-        die(what);
+    return sealed_put_record(key.schedule, key.multiples, 3, 7, 258, text, TEXT, record, RECORD) == SEALED_DONE;
 }
 
-static void make_text(uint8_t *at, uint64_t stamp, unsigned first)
+static int open_record(void)
 {
-    memset(at, 0, TEXT);
-    memcpy(at, &stamp, 8);
-    for (unsigned i = 0; i < 16; i++) {
-        uint8_t *write = at + 8 + 8 * i;
-        write[0] = (uint8_t)(first + i * 15);
-        write[2] = (uint8_t)(1 + i % 4);
-        write[4] = (uint8_t)i;
+    return sealed_open_record(key.schedule, key.multiples, record, RECORD, record_text, TEXT).code == SEALED_DONE;
+}
+
+static int seal_file(void)
+{
+    return sealed_put_file(key.schedule, key.multiples, 8, 9, table, TABLE, file, FILE_LEN) == SEALED_DONE;
+}
+
+static int open_file(void)
+{
+    return sealed_open_file(key.schedule, key.multiples, file, FILE_LEN, file_table, TABLE).code == SEALED_DONE;
+}
+
+static int enter_log(void)
+{
+    return sealed_enter_each(file_table, TABLE, texts, sizeof texts, 3, 258) == SEALED_DONE;
+}
+
+/* ---- the cipher's part of it ---- */
+
+static int bare_seal_record(void)
+{
+    return cipher_seal(key.schedule, key.multiples, record_nonce, NONCE, record, AAD,
+                       bare_record, sizeof bare_record, TEXT) == CIPHER_DONE;
+}
+
+static int bare_open_record(void)
+{
+    return cipher_open(key.schedule, key.multiples, record_nonce, NONCE, record, AAD,
+                       record + AAD, TEXT + TAG, record_text, TEXT) == CIPHER_DONE;
+}
+
+static int bare_seal_file(void)
+{
+    return cipher_seal(key.schedule, key.multiples, file_nonce, NONCE, file, AAD,
+                       bare_file, sizeof bare_file, TABLE) == CIPHER_DONE;
+}
+
+static int bare_open_file(void)
+{
+    return cipher_open(key.schedule, key.multiples, file_nonce, NONCE, file, AAD,
+                       file + AAD, TABLE + TAG, file_table, TABLE) == CIPHER_DONE;
+}
+
+static int bare_open_log(void)
+{
+    int opened = 0;
+    for (int i = 0; i < LOG; i++)
+        opened += bare_open_record();
+    return opened == LOG;
+}
+
+static struct row {
+    const char *name;
+    int (*work[2])(void);               /* the whole, and the cipher's part */
+    double best[2];
+} rows[] = {
+    { "seal a record of 16 writes", { seal_record, bare_seal_record }, { 0, 0 } },
+    { "open a record of 16 writes", { open_record, bare_open_record }, { 0, 0 } },
+    { "seal a checkpoint", { seal_file, bare_seal_file }, { 0, 0 } },
+    { "open a checkpoint", { open_file, bare_open_file }, { 0, 0 } },
+    { "enter a full log, beside opening it", { enter_log, bare_open_log }, { 0, 0 } },
+};
+
+enum { ROWS = sizeof rows / sizeof rows[0] };
+
+/* ---- what is worked on ---- */
+
+static void fill(uint8_t *to, size_t n)
+{
+    static uint64_t state = 0x5eed;
+    for (size_t i = 0; i < n; i++) {
+        state ^= state << 13;
+        state ^= state >> 7;
+        state ^= state << 17;
+        to[i] = (uint8_t)(state >> 32);
     }
 }
 
-/* ---- the pieces ---- */
-
-static void put_record(void)
+/* A transaction of 16 writes, and a table in which every meter has a reading. */
+static void make_work(void)
 {
-    must(sealed_put_record(key.schedule, key.multiples, 3, 1, 7, text, TEXT, record, sizeof record) == 0, "a record was refused");
+    uint8_t bytes[KEY];
+    fill(bytes, KEY);
+    check(cipher_prepare(bytes, KEY, key.schedule, key.multiples) == CIPHER_DONE, "preparing a key");
+    fill(text, TEXT);
+    for (int i = 0; i < WRITES; i++) {
+        uint8_t *w = text + 8 + 8 * i;
+        w[0] = (uint8_t)(16 * i + 5);
+        w[1] = 0;
+        w[2] = (uint8_t)(1 + i % 4);
+        w[3] = 0;
+    }
+    for (uint64_t i = 0; i < LOG; i++) {
+        memcpy(texts + i * TEXT, text, TEXT);
+        memcpy(texts + i * TEXT, &i, sizeof i);
+    }
+    fill(table, TABLE);
+    for (int i = 0; i < METERS; i++) {
+        uint8_t *e = table + ENTRY * i;
+        e[20] = (uint8_t)(1 + i % 4);
+        e[21] = (uint8_t)(i % 8);
+        e[22] = 1;
+        e[23] = 0;
+    }
 }
 
-static void open_record(void)
+/* Both seal to the same bytes, and both open to what was sealed. */
+static void check_work(void)
 {
-    uint8_t out[TEXT];
-    must(sealed_open_record(key.schedule, key.multiples, record, sizeof record, out, sizeof out).code == 0, "a record does not open");
+    check(seal_record() && seal_file(), "sealing");
+    memcpy(bare_record, text, TEXT);
+    memcpy(bare_file, table, TABLE);
+    check(bare_seal_record() && !memcmp(bare_record, record + AAD, TEXT + TAG), "sealing a record's text");
+    check(bare_seal_file() && !memcmp(bare_file, file + AAD, TABLE + TAG), "sealing a checkpoint's text");
+    check(open_record() && !memcmp(record_text, text, TEXT), "opening a record");
+    check(open_file() && !memcmp(file_table, table, TABLE), "opening a checkpoint");
+    memset(record_text, 0, TEXT);
+    memset(file_table, 0, TABLE);
+    check(bare_open_record() && !memcmp(record_text, text, TEXT), "opening a record's text");
+    check(bare_open_file() && !memcmp(file_table, table, TABLE), "opening a checkpoint's text");
 }
 
-static void put_file(void)
-{
-    must(sealed_put_file(key.schedule, key.multiples, 1, 2, table, TABLE, file, sizeof file) == 0, "a file was refused");
-}
-
-static void open_file(void)
-{
-    static uint8_t out[TABLE];
-    must(sealed_open_file(key.schedule, key.multiples, file, sizeof file, out, sizeof out).code == 0, "a file does not open");
-}
-
-static void enter_all(void)
-{
-    must(sealed_enter_each(table, TABLE, texts, sizeof texts, 3, 1) == 0, "the table is none");
-}
-
-static void bare_seal(uint8_t *buf, size_t n)
-{
-    must(cipher_seal(key.schedule, key.multiples, nonce, 12, record, HEAD, buf, n + TAG, n) == CIPHER_DONE, "the cipher refused");
-}
-
-static void bare_open(const uint8_t *sealed, size_t n)
-{
-    static uint8_t out[TABLE];
-    must(cipher_open(key.schedule, key.multiples, nonce, 12, record, HEAD, sealed, n + TAG, out, sizeof out) == CIPHER_DONE, "the cipher refused");
-}
-
-static void bare_put_record(void) { static uint8_t buf[TEXT + TAG]; bare_seal(buf, TEXT); }
-static void bare_open_record(void) { bare_open(bare_record, TEXT); }
-static void bare_put_file(void) { static uint8_t buf[TABLE + TAG]; bare_seal(buf, TABLE); }
-static void bare_open_file(void) { bare_open(bare_file, TABLE); }
-
-static void bare_open_all(void)
-{
-    for (int i = 0; i < RECORDS; i++)
-        bare_open(bare_record, TEXT);
-}
-
-static const struct piece {
-    const char *name;
-    void (*work)(void), (*bare)(void);
-} pieces[] = {
-    { "seal a record of 16 writes", put_record, bare_put_record },
-    { "open it", open_record, bare_open_record },
-    { "seal a checkpoint file", put_file, bare_put_file },
-    { "open it", open_file, bare_open_file },
-    { "enter 1,489 transactions, beside opening them", enter_all, bare_open_all },
-};
-
-enum { PIECES = sizeof pieces / sizeof *pieces };
+/* ---- the clock ---- */
 
 static double now_ns(void)
 {
@@ -125,45 +184,36 @@ static double now_ns(void)
     return 1e9 * (double)t.tv_sec + (double)t.tv_nsec;
 }
 
-/* Nanoseconds for one piece of work, over some 5 ms of it. */
-static double measure(void (*work)(void))
+static double batch(int (*work)(void), long times)
 {
+    int right = 1;
     double start = now_ns();
-    work();
-    long times = (long)(5e6 / (now_ns() - start)) + 1;
-    start = now_ns();
     for (long i = 0; i < times; i++)
-        work();
-    return (now_ns() - start) / (double)times;
+        right &= work();
+    double ns = (now_ns() - start) / (double)times;
+    check(right, "measured work");
+    return ns;
 }
 
-static void keep_least(double *best, double t)
+static void run_in_turn(struct row *r)
 {
-    if (*best == 0 || t < *best)
-        *best = t;
+    for (int i = 0; i < 2; i++) {
+        double t = batch(r->work[i], (long)(batch_ns / batch(r->work[i], 20)) + 1);
+        if (r->best[i] == 0 || t < r->best[i])
+            r->best[i] = t;
+    }
 }
 
 int main(void)
 {
-    uint8_t raw[16] = { 1, 2, 3 };
-    must(cipher_prepare(raw, sizeof raw, key.schedule, key.multiples) == CIPHER_DONE, "the key was refused");
-    make_text(text, 1000, 1);
-    for (int i = 0; i < RECORDS; i++)
-        make_text(texts + (size_t)i * TEXT, 1000 + (uint64_t)i, (unsigned)i % 16);
-    put_record();
-    put_file();
-    bare_seal(bare_record, TEXT);
-    bare_seal(bare_file, TABLE);
-
-    double best[PIECES][2] = { { 0 } };
+    make_work();
+    check_work();
     for (int round = 0; round < ROUNDS; round++)
-        for (int i = 0; i < PIECES; i++) {
-            keep_least(&best[i][0], measure(pieces[i].work));
-            keep_least(&best[i][1], measure(pieces[i].bare));
-        }
-
-    printf("%-48s %10s %10s %7s\n", "", "ns", "cipher, ns", "ratio");
-    for (int i = 0; i < PIECES; i++)
-        printf("%-48s %10.0f %10.0f %7.2f\n", pieces[i].name, best[i][0], best[i][1], best[i][0] / best[i][1]);
+        for (int i = 0; i < ROWS; i++)
+            run_in_turn(&rows[i]);
+    printf("%-28s %10s %10s %8s\n", "", "ns", "cipher ns", "ratio");
+    for (int i = 0; i < ROWS; i++)
+        printf("%-28s %10.0f %10.0f %8.2f\n", rows[i].name, rows[i].best[0], rows[i].best[1],
+               rows[i].best[0] / rows[i].best[1]);
     return 0;
 }

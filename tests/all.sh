@@ -21,4 +21,7 @@ esac
 rt staticlib cipher_c | tail -n 1
 sh tests/cipher/run.sh
 
+rt staticlib sealed_c | tail -n 1
+sh tests/sealed/run.sh
+
 echo "$verdict"
