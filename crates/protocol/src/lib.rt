@@ -1,0 +1,134 @@
+// The collector's state and what its calls answer (01, Vault and stores, Operations, Numbers on the display).
+//
+// This crate has the declared types and the definitions of the eight operations over them (specs/). It has no code: the
+// crates of the operations have it, and their contracts cite these definitions.
+use table::Table;
+
+// The vault's 27 numbers. For each lane: w, the numbers handed out; v, the numbers visible; r, the numbers truncated.
+// The epoch e, the checkpoint version s, and the checkpoint seal number n.
+pub struct Vault {
+    pub w: [u64; 8],
+    pub v: [u64; 8],
+    pub r: [u64; 8],
+    pub e: u64,
+    pub s: u64,
+    pub n: u64,
+}
+
+// A collector is cold after loading, recovering, or in service.
+pub enum Phase {
+    Cold,
+    Recovering,
+    Serving,
+}
+
+// The single store that is due.
+pub enum Due {
+    Nothing,
+    // Accept: the record of the transaction held.
+    Record,
+    // Checkpoint: the file, then S.
+    File,
+    Version,
+    // Truncate at a position: R of a lane, then the deletion.
+    TruncateR { lane: u8, position: u64 },
+    TruncateDelete { position: u64 },
+    // Recover: the file and S of its first or second checkpoint, the second N, R of a lane, E, V of a lane, emptying the
+    // log.
+    RecoverFile { second: bool },
+    RecoverVersion { second: bool },
+    RecoverSeal,
+    RecoverR { lane: u8 },
+    RecoverEpoch,
+    RecoverV { lane: u8 },
+    RecoverEmpty,
+}
+
+// The accepted records at or above the newest point, in the order of their positions, and the last position used.
+pub struct Journal {
+    pub positions: [u64; 128],
+    pub lanes: [u8; 128],
+    pub count: usize,
+    pub used: bool,
+    pub last: u64,
+}
+
+// A point: per lane how many numbers lie below it, and whether a checkpoint covers it.
+pub struct Point {
+    pub position: u64,
+    pub counts: [u64; 8],
+    pub covered: bool,
+}
+
+// The points kept, and the newest one set since service began.
+pub struct Points {
+    pub items: [Point; 8],
+    pub count: usize,
+    pub any: bool,
+    pub newest: u64,
+}
+
+// The transaction that Accept holds for Seal.
+pub struct Held {
+    pub text: [u8; 136],
+    pub len: usize,
+    pub lane: u8,
+    pub position: u64,
+}
+
+pub struct State {
+    pub vault: Vault,
+    pub phase: Phase,
+    pub due: Due,
+    pub table: Table,
+    pub journal: Journal,
+    pub points: Points,
+    pub held: Held,
+    pub key: [u8; 16],
+}
+
+// The store that a call names.
+pub enum Store {
+    Nothing,
+    W { lane: u8, value: u64 },
+    V { lane: u8, value: u64 },
+    R { lane: u8, value: u64 },
+    E { value: u64 },
+    S { value: u64 },
+    N { value: u64 },
+    Record { position: u64 },
+    File,
+    Delete { position: u64 },
+    Empty,
+}
+
+// Why a call is turned down.
+pub enum Refusal {
+    Condition,
+    Numbers,
+    Length { right: usize },
+    Transaction,
+    Lane,
+    Position,
+    Full,
+    Spent,
+    Closed { offset: usize },
+    Epoch { offset: usize },
+    Turn { offset: usize },
+    Version,
+    Missing { lane: u8 },
+    Point,
+    Unseen,
+}
+
+// What a call answers: the store that it names and how many bytes it put out, or why it was turned down.
+pub enum Outcome {
+    Taken { store: Store, len: usize },
+    Refused { why: Refusal },
+}
+
+// A call hands the state back with its outcome.
+pub struct Answer {
+    pub state: State,
+    pub outcome: Outcome,
+}
