@@ -12,6 +12,7 @@ use lib.ListN.{length, take, drop, length-append, length-drop}
 use lib.Seq.{take-at, drop-at, drop-drop, length-take-le}
 use Rattle.octets.specs.Lists.{over}
 use Rattle.octets.specs.Bytes.{bytesOf, sameBytes}
+use Rattle.octets.proofs.BoolLaws.{or-left, or-right}
 use Rattle.octets.proofs.CopyLaws.{over-room}
 use Rattle.octets.proofs.ByteLaws.{length-bytes}
 use Rattle.aes.specs.Counter.{inc32, gctr}
@@ -22,15 +23,6 @@ use Rattle.gcm.specs.declared.Sealing.the-variants as S
 use Rattle.gcm.specs.declared.Opening.{Opening}
 use Rattle.gcm.specs.declared.Opening.the-variants as O
 use Rattle.gcm.proofs.SealLaws.{length-cipher-text, length-tag, length-sealed}
-
--- a test that failed of two lengths
-or-left : (p q : Bool) → (p || q) ≡ false → p ≡ false
-or-left true q e = e
-or-left false q e = refl
-
-or-right : (p q : Bool) → (p || q) ≡ false → q ≡ false
-or-right true q e = let z : _≡_ {A = ℕ} 0 1 = cc in absurd (omega arith)
-or-right false q e = e
 
 pub within-text : (n d : ℕ) → beyond n d ≡ false → n ≤ maxText
 within-text n d e = ltb-false maxText n (or-left (ltb maxText n) (ltb maxData d) e)

@@ -1,4 +1,5 @@
 -- Laws that the layers above cite.
+pub mod BoolLaws
 pub mod Table
 pub mod Build
 pub mod XorLaws

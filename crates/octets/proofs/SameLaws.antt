@@ -12,11 +12,8 @@ use lib.Dec.{eqb, eqb·suc-zero}
 use lib.ListN.{length, getD, drop, drop-of-length-le}
 use lib.Seq.{drop-cons}
 use Rattle.octets.specs.Bytes.{sameBytes}
+use Rattle.octets.proofs.BoolLaws.{and-assoc, and-true, and-false}
 use Rattle.octets.proofs.XorLaws.{xor-none}
-
-and-assoc : (p q r : Bool) → (p && q) && r ≡ p && (q && r)
-and-assoc true q r = refl
-and-assoc false q r = refl
 
 xor-test : (x y : ℕ) (b : Bool) → eqb x y ≡ b → eqb (bitXor x y) 0 ≡ b
 xor-test x y true e = eq-eqb (bitXor x y) 0 (ap (bitXor x) (sym (eqb-true x y e)) ∙ xor-self x)
@@ -37,20 +34,12 @@ same-turn d i s t h e =
     rw (add-one i, drop-cons s i 0 h, drop-cons t i 0 (omega arith), or-test d (getD s i 0) (getD t i 0))
     (and-assoc (eqb d 0) (eqb (getD s i 0) (getD t i 0)) (sameBytes (drop (suc i) s) (drop (suc i) t)))
 
-and-true : (p : Bool) → p && true ≡ p
-and-true true = refl
-and-true false = refl
-
 -- no byte left
 pub same-end : (d i : ℕ) (s t : List ℕ) → length s ≤ i → length t ≤ i → eqb d 0 && sameBytes (drop i s) (drop i t) ≡ eqb d 0
 unfolding sameBytes
 same-end d i s t h g = rw (drop-of-length-le s h, drop-of-length-le t g) (and-true (eqb d 0))
 
 -- strings of two lengths differ
-and-false : (p : Bool) → p && false ≡ false
-and-false true = refl
-and-false false = refl
-
 pub same-length : (s t : List ℕ) → (length s ≡ length t → ⊥) → sameBytes s t ≡ false
 unfolding sameBytes
 same-length [] [] h = absurd (h refl)

@@ -15,6 +15,7 @@ use lib.Seq.{take-at, drop-at, length-take-le}
 use Rattle.octets.specs.Lists.{at, over}
 use Rattle.octets.specs.Bytes.{padded, sameBytes}
 use Rattle.octets.specs.Little.{little, littleBytes}
+use Rattle.octets.proofs.BoolLaws.{and-left}
 use Rattle.octets.proofs.LittleLaws.{length-little, little-fits}
 use Rattle.octets.proofs.CopyLaws.{over-room}
 use Rattle.octets.proofs.PartLaws.{mid-rest}
@@ -72,10 +73,6 @@ not-file s no-file = rw (ne-eqb (length s) 6184 no-file)
 pub file-bytes : (s : List ℕ) → length s ≡ 6184 → legalFile s ≡ eqb (at s 0) 2 && eqb (at s 1) 0 && eqb (at s 2) 0 && eqb (at s 3) 0
 unfolding legalFile
 file-bytes s l = rw (eq-eqb (length s) 6184 l)
-
-and-left : (p q : Bool) → p && q ≡ true → p ≡ true
-and-left true q e = refl
-and-left false q e = e
 
 pub legal-length : (s : List ℕ) → legalFile s ≡ true → length s ≡ 6184
 unfolding legalFile
