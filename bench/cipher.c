@@ -15,6 +15,7 @@
 #define _GNU_SOURCE
 
 #include "cipher.h"
+#include "common.h"
 
 #include <bearssl.h>
 #include <dlfcn.h>
@@ -32,7 +33,6 @@
 #include <stdlib.h>
 #include <string.h>
 #include <sys/wait.h>
-#include <time.h>
 #include <unistd.h>
 
 enum {
@@ -383,17 +383,6 @@ enum { CONTESTANTS = sizeof contestants / sizeof contestants[0] };
 
 /* ---- one contestant's process ---- */
 
-static void fill(uint8_t *to, size_t n)
-{
-    static uint64_t state = 0x5eed;
-    for (size_t i = 0; i < n; i++) {
-        state ^= state << 13;
-        state ^= state >> 7;
-        state ^= state << 17;
-        to[i] = (uint8_t)(state >> 32);
-    }
-}
-
 /* The work, and what is right for it by OpenSSL. */
 static void make_work(void)
 {
@@ -450,13 +439,6 @@ static void work_prepare(const struct contestant *c)
 {
     (void)c;
     ours_prepare();
-}
-
-static double now_ns(void)
-{
-    struct timespec t;
-    clock_gettime(CLOCK_MONOTONIC, &t);
-    return 1e9 * (double)t.tv_sec + (double)t.tv_nsec;
 }
 
 static double batch(void (*work)(const struct contestant *), const struct contestant *c, long times)

@@ -11,12 +11,12 @@
 #define _POSIX_C_SOURCE 199309L
 
 #include "cipher.h"
+#include "common.h"
 #include "sealed.h"
 
 #include <stdio.h>
 #include <stdlib.h>
 #include <string.h>
-#include <time.h>
 
 enum {
     KEY = 16, NONCE = 12, AAD = 20, TAG = 16, FRAME = 40,
@@ -120,17 +120,6 @@ enum { ROWS = sizeof rows / sizeof rows[0] };
 
 /* ---- what is worked on ---- */
 
-static void fill(uint8_t *to, size_t n)
-{
-    static uint64_t state = 0x5eed;
-    for (size_t i = 0; i < n; i++) {
-        state ^= state << 13;
-        state ^= state >> 7;
-        state ^= state << 17;
-        to[i] = (uint8_t)(state >> 32);
-    }
-}
-
 /* A transaction of 16 writes, and a table in which every meter has a reading. */
 static void make_work(void)
 {
@@ -176,13 +165,6 @@ static void check_work(void)
 }
 
 /* ---- the clock ---- */
-
-static double now_ns(void)
-{
-    struct timespec t;
-    clock_gettime(CLOCK_MONOTONIC, &t);
-    return 1e9 * (double)t.tv_sec + (double)t.tv_nsec;
-}
 
 static double batch(int (*work)(void), long times)
 {

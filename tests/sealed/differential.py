@@ -154,6 +154,9 @@ def longer(s):
     return s + rnd.randbytes(rnd.choice((1, 4, 8, rnd.randint(1, 60))))
 
 
+DAMAGE = {"cut": cut, "longer": longer, "flipped": flipped}
+
+
 def bad_text():
     """A text that is not a transaction in its layout."""
     text = transaction()
@@ -243,12 +246,8 @@ def record_bytes(key):
     s = model.record(k, l, e, i, text)
     how = rnd.choice(("whole", "whole", "whole", "cut", "longer", "flipped", "flipped", "other key", "random", "bad text", "bad text",
                       "bad text", "lane", "n", "trailer", "kind", "nonce", "head changed", "trailer and more"))
-    if how == "cut":
-        s = cut(s)
-    elif how == "longer":
-        s = longer(s)
-    elif how == "flipped":
-        s = flipped(s)
+    if how in DAMAGE:
+        s = DAMAGE[how](s)
     elif how == "other key":
         s = model.record(rnd.randbytes(16), l, e, i, text)
     elif how == "random":
@@ -286,12 +285,8 @@ def file_bytes(key):
     how = rnd.choice(("whole", "whole", "cut", "longer", "flipped", "other key", "random", "bad table", "bad table", "bad table", "zeros",
                       "trailer", "kind", "nonce", "head changed"))
     text = model.table_text(t)
-    if how == "cut":
-        s = cut(s)
-    elif how == "longer":
-        s = longer(s)
-    elif how == "flipped":
-        s = flipped(s)
+    if how in DAMAGE:
+        s = DAMAGE[how](s)
     elif how == "other key":
         s = model.file(rnd.randbytes(16), v, i, t)
     elif how == "random":

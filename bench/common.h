@@ -1,0 +1,28 @@
+/* What both benchmarks use: bytes to work on, the same in every run, and a clock. */
+
+#ifndef BENCH_COMMON_H
+#define BENCH_COMMON_H
+
+#include <stddef.h>
+#include <stdint.h>
+#include <time.h>
+
+static void fill(uint8_t *to, size_t n)
+{
+    static uint64_t state = 0x5eed;
+    for (size_t i = 0; i < n; i++) {
+        state ^= state << 13;
+        state ^= state >> 7;
+        state ^= state << 17;
+        to[i] = (uint8_t)(state >> 32);
+    }
+}
+
+static double now_ns(void)
+{
+    struct timespec t;
+    clock_gettime(CLOCK_MONOTONIC, &t);
+    return 1e9 * (double)t.tv_sec + (double)t.tv_nsec;
+}
+
+#endif
