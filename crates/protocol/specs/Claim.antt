@@ -1,0 +1,62 @@
+-- Demand 3, as 01's section on the list, the book and the card has it: one claim about the whole list. The proof is in proofs/Theorem.antt.
+-- Assumes nothing.
+use Prim.Native.Nat.{ℕ, suc, _≤_}
+use mathlib.Core.Path.{_≡_}
+use mathlib.Core.Bool.{Bool, true, cond}
+use mathlib.Core.List.{List, []}
+use mathlib.Core.Option.{Option, some}
+use lib.ListN.{length}
+use Rattle.protocol.specs.Said.{refused, taken}
+use Rattle.protocol.specs.Load.{load}
+use Rattle.protocol.specs.Recover.{spent, recover}
+use Rattle.protocol.specs.Book.{bookTable}
+use Rattle.protocol.specs.History.{Event, call, callRecover, World, newWorld, settled, next, run, isTaken, Honest, Premises, faithfulLog, FaithfulFile}
+use Rattle.protocol.specs.declared.State.{State}
+use Rattle.protocol.specs.declared.Phase.the-variants as F
+use Rattle.protocol.specs.declared.Store.the-variants as S
+
+module _ (key : List ℕ) where
+  -- what a list comes to, from a new vault and no state
+  abbrev pub after : List Event → World
+  after es = run key newWorld es
+
+  -- a list that keeps to the premises
+  abbrev pub Listed : List Event → Type 0
+  Listed es = Premises key newWorld es
+
+  -- "After the call by which Recover is accepted, and after each that goes on with its stores, the table in the state is the book's table,
+  -- entry for entry": whatever is handed over as checkpoint and log.
+  abbrev pub TableIsTheBooks : Type 0
+  TableIsTheBooks = (es : List Event) → Listed es → (c : State) → after es .state ≡ some c → (file log : List ℕ) (room : ℕ) → Honest key (after es) (call (callRecover file log room))
+      → isTaken (recover c file log room .said) ≡ true
+      → (d : State) × (next key (after es) (call (callRecover file log room)) .state ≡ some d) × (d .table ≡ bookTable (next key (after es) (call (callRecover file log room)) .lasting .book))
+
+  -- "After any such list, recovery of a cold collector from a card that kept faith as 01 defines is accepted exactly when no counter is
+  -- spent": taken, with the store of N + 1, or refused with 8.
+  abbrev pub FaithfulCardIsTaken : Type 0
+  FaithfulCardIsTaken = (es : List Event) → Listed es → (c : State) → after es .state ≡ some c → c .phase ≡ F.Cold → (file : List ℕ) (room : ℕ)
+      → FaithfulFile (settled (after es) .vault .s) (settled (after es) .card) file
+      → recover c file (faithfulLog (settled (after es) .card)) room .said ≡ cond (spent (settled (after es) .vault)) (refused 8 []) (taken (S.N (suc (settled (after es) .vault .n))) 0)
+
+  -- Load takes the vault's numbers after any list, and hands back a cold collector
+  abbrev pub LoadIsTaken : Type 0
+  LoadIsTaken = (es : List Event) → Listed es → load (settled (after es) .vault) key .said ≡ taken S.Nothing 0
+
+  -- the card that kept faith has a file of version S where S > 0
+  abbrev pub CardHasAFile : Type 0
+  CardHasAFile = (es : List Event) → Listed es → (file : List ℕ) × FaithfulFile (settled (after es) .vault .s) (settled (after es) .card) file
+
+  -- its log is at most 9 · 128 records of at most 176 bytes
+  abbrev pub LogIsShort : Type 0
+  LogIsShort = (es : List Event) → Listed es → length (faithfulLog (settled (after es) .card)) ≤ 202752
+
+  pub record Claim : Type 0 where
+    pub table-is-the-books : TableIsTheBooks
+    pub faithful-card-is-taken : FaithfulCardIsTaken
+    pub load-is-taken : LoadIsTaken
+    pub card-has-a-file : CardHasAFile
+    pub log-is-short : LogIsShort
+
+-- demand 3, for every key of 16 bytes
+abbrev pub Demand3 : Type 0
+Demand3 = (key : List ℕ) → length key ≡ 16 → Claim key
