@@ -1,4 +1,24 @@
--- Theorems about the definitions. BlankLaws: the blank state. RefusalLaws: refusals. Basis: what the theorem takes from the layers below.
+-- Theorems about the definitions.
+-- BlankLaws: the blank state. RefusalLaws: refusals. Basis: what the theorem takes from the layers below. Lanes: an array of lanes.
+-- Latest: the latest reading over a set of records. BookLaws: the book's table. MissingLaws: lanes that have not reached V.
+-- Hostile: reading any log. LaidLaws, Card, Faith: reading the log of a card that kept faith.
+-- Invariant: what holds of every list. StoreLaws: how each invariant takes each store. Listed, Phases: the state's lists, its phase.
+-- KeepRecover, KeepCold, KeepAccept, KeepPoint, KeepTruncate: each call keeps the invariant. Theorem: demand 3.
 pub mod BlankLaws
 pub mod RefusalLaws
 pub mod Basis
+pub mod Lanes
+pub mod Latest
+pub mod BookLaws
+pub mod MissingLaws
+pub mod Hostile
+pub mod LaidLaws
+pub mod Card
+pub mod Faith
+pub mod Invariant
+pub mod StoreLaws
+pub mod Listed
+pub mod KeepRecover
+pub mod KeepCold
+pub mod Phases
+pub mod KeepAccept

@@ -14,5 +14,6 @@ pub mod Truncate
 pub mod Replay
 pub mod Recover
 pub mod Book
+pub mod LatestOf
 pub mod History
 pub mod Claim

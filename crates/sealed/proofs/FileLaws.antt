@@ -234,13 +234,7 @@ number-front k n y h =
     ap (λ (i : ℕ). little (padded i (littleBytes k n ++ y))) (sym (length-little k n))
     ∙ ap little (padded-front (littleBytes k n) y) ∙ little-fits k n h
 
-module _ (a : Aead) (grows : Grows a) (version seal : ℕ) (t : Table) (canonical : CanonicalTable t) where
-  pub length-file-by : length (fileBytes a version seal t) ≡ 6184
-  unfolding fileBytes
-  length-file-by =
-      let l = length-table t (canonical .long) in
-      length-framed a grows (fileNonce seal) (fileHead version seal) (tableText t) (length-head version seal) ∙ omega arith
-
+module _ (a : Aead) (version seal : ℕ) (t : Table) where
   rest : List ℕ
   rest = a .enc (fileNonce seal) (fileHead version seal) (tableText t) ++ littleBytes 4 (length (tableText t) + 40)
 
@@ -248,22 +242,30 @@ module _ (a : Aead) (grows : Grows a) (version seal : ℕ) (t : Table) (canonica
   unfolding fileBytes framed fileHead rest
   file-laid = ap (λ (l : List ℕ). 2 ∷ 0 ∷ 0 ∷ 0 ∷ l) (append-assoc (littleBytes 8 version) (littleBytes 8 seal) _)
 
-  file-legal : legalFile (fileBytes a version seal t) ≡ true
-  file-legal =
-      let s = fileBytes a version seal t in
-      file-bytes s length-file-by ∙ ap (λ (l : List ℕ). eqb (at l 0) 2 && eqb (at l 1) 0 && eqb (at l 2) 0 && eqb (at l 3) 0) file-laid
-
-  version-back : version < 2 ^ 64 → versionOf (fileBytes a version seal t) ≡ version
+  -- a file shows its version and its seal number, whatever its table
+  pub version-is : version < 2 ^ 64 → versionOf (fileBytes a version seal t) ≡ version
   unfolding versionOf
-  version-back h =
+  version-is h =
       ap (λ (l : List ℕ). little (padded 8 (drop 4 l))) file-laid ∙ number-front 8 version (littleBytes 8 seal ++ rest) h
 
-  seal-back : seal < 2 ^ 64 → sealOf (fileBytes a version seal t) ≡ seal
+  seal-shown : seal < 2 ^ 64 → sealOf (fileBytes a version seal t) ≡ seal
   unfolding sealOf
-  seal-back h =
+  seal-shown h =
       ap (λ (l : List ℕ). little (padded 8 (drop 12 l))) file-laid
       ∙ ap (λ (l : List ℕ). little (padded 8 l)) (drop-at (littleBytes 8 version) (littleBytes 8 seal ++ rest) 8 (length-little 8 version))
       ∙ number-front 8 seal rest h
+
+module _ (a : Aead) (grows : Grows a) (version seal : ℕ) (t : Table) (canonical : CanonicalTable t) where
+  pub length-file-by : length (fileBytes a version seal t) ≡ 6184
+  unfolding fileBytes
+  length-file-by =
+      let l = length-table t (canonical .long) in
+      length-framed a grows (fileNonce seal) (fileHead version seal) (tableText t) (length-head version seal) ∙ omega arith
+
+  file-legal : legalFile (fileBytes a version seal t) ≡ true
+  file-legal =
+      let s = fileBytes a version seal t in
+      file-bytes s length-file-by ∙ ap (λ (l : List ℕ). eqb (at l 0) 2 && eqb (at l 1) 0 && eqb (at l 2) 0 && eqb (at l 3) 0) (file-laid a version seal t)
 
   file-unframed : Opens a → unframed a (fileNonce seal) (fileBytes a version seal t) ≡ some (tableText t)
   unfolding fileBytes
@@ -274,10 +276,10 @@ module _ (a : Aead) (grows : Grows a) (version seal : ℕ) (t : Table) (canonica
   pub file-opens-by : Opens a → version < 2 ^ 64 → seal < 2 ^ 64 → openFile a (fileBytes a version seal t) ≡ some (record { version = version; seal = seal; table = t })
   file-opens-by opens hv hs =
       let s = fileBytes a version seal t in
-      let es : sealOf s ≡ seal = seal-back hs in
+      let es : sealOf s ≡ seal = seal-shown a version seal t hs in
       let u : unframed a (fileNonce (sealOf s)) s ≡ some (tableText t) = ap (λ (n : ℕ). unframed a (fileNonce n) s) es ∙ file-unframed opens in
       open-opens a s (tableText t) file-legal u (text-is-table t canonical)
-      ∙ ap₂ (λ (v n : ℕ). some (record { version = v; seal = n; table = tableFrom (tableText t) })) (version-back hv) es
+      ∙ ap₂ (λ (v n : ℕ). some (record { version = v; seal = n; table = tableFrom (tableText t) })) (version-is a version seal t hv) es
       ∙ ap (λ (b : Table). some (record { version = version; seal = seal; table = b })) (table-back t canonical)
 
 -- AES-128-GCM
