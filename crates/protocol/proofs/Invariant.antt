@@ -37,6 +37,7 @@ use Rattle.protocol.specs.Point.{Mark, marksOf}
 use Rattle.protocol.specs.Truncate.{pointsOf, findPoint}
 use Rattle.protocol.specs.Said.{Said, refused, taken, Answered}
 use Rattle.protocol.specs.History.{Lasting, Pending, World, Sealing, settled}
+use Rattle.protocol.specs.Claim.{NotLower}
 use Rattle.protocol.specs.declared.Vault.{Vault}
 use Rattle.protocol.specs.declared.Point.{Point}
 use Rattle.protocol.specs.declared.Points.{Points}
@@ -399,23 +400,9 @@ module _ (key : List ℕ) where
   Puts (outRecord r) st put = (p : ℕ) × (st ≡ S.Record p) × (put ≡ bytesOf key r)
   Puts (outFile f) st put = (st ≡ S.File) × (put ≡ fileOf key f)
 
-  -- the store lowers no vault number
-  abbrev pub Rises : Vault → Store → Type 0
-  Rises x S.Nothing = Unit {0}
-  Rises x (S.W l k) = at (x .w) l ≤ k
-  Rises x (S.V l k) = at (x .v) l ≤ k
-  Rises x (S.R l k) = at (x .r) l ≤ k
-  Rises x (S.E k) = x .e ≤ k
-  Rises x (S.S k) = x .s ≤ k
-  Rises x (S.N k) = x .n ≤ k
-  Rises x (S.Record p) = Unit {0}
-  Rises x S.File = Unit {0}
-  Rises x (S.Delete p) = Unit {0}
-  Rises x S.Empty = Unit {0}
-
   pub record Good (c : State) (st : Store) (put : List ℕ) (adds : Option Opened) (d : Durable) (o : Out) : Type 0 where
     pub puts : Puts o st put
-    pub rises : Rises (d .vault) st
+    pub rises : NotLower (d .vault) st
     pub now : Durably (known o d)
     pub then : Durably (bookedTo adds (carried st o (known o d)))
     pub link : Linked c (bookedTo adds (carried st o (known o d)))

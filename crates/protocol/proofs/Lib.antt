@@ -22,3 +22,8 @@ pub mod KeepRecover
 pub mod KeepCold
 pub mod Phases
 pub mod KeepAccept
+pub mod KeepPoint
+pub mod KeepCheckpoint
+pub mod KeepTruncate
+pub mod Apart
+pub mod Runs

@@ -1,7 +1,7 @@
 -- The state's arrays as lists: the listed records, and the points.
 -- Assumes nothing.
 use Prim.Native.Nat.{ℕ, zero, suc, _+_, _-_, _≤_, _<_}
-use mathlib.Core.Path.{_≡_, refl, ap}
+use mathlib.Core.Path.{_≡_, refl, ap, _∙_}
 use mathlib.Core.Bool.{Bool, true, false, cond, _&&_}
 use mathlib.Core.List.{List, [], _∷_, _++_, map}
 use native.Mathlib.Omega.{arith}
@@ -9,6 +9,7 @@ use lib.Dec.{leb}
 use lib.ListN.{set, length, take, length-append, length-replicate, length-map, replicate}
 use lib.Seq.{take-append-seam}
 use borrow.Author.Tests.{leb-false}
+use Rattle.octets.specs.Lists.{at, from, tab}
 use Rattle.protocol.specs.States.{listed, pointsMax, noPoint}
 use Rattle.protocol.specs.Point.{Mark, marksTo, marksOf, journalOf}
 use Rattle.protocol.specs.Checkpoint.{coveredPoint, coveredPoints}
@@ -69,6 +70,22 @@ take-map {B = B} f (suc n) (x ∷ xs) = ap {B = List B} (λ r. f x ∷ r) (take-
 pub covered-points : (p : Points) → pointsOf (coveredPoints p) ≡ map coveredPoint (pointsOf p)
 unfolding pointsOf coveredPoints
 covered-points p = take-map coveredPoint (p .count) (p .items)
+
+-- a list by an index function
+pub length-from-tab : (i n : ℕ) (f : ℕ → ℕ) → length (from i n f) ≡ n
+length-from-tab i zero f = refl
+length-from-tab i (suc n) f = ap suc (length-from-tab (suc i) n f)
+
+pub length-tab : (n : ℕ) (f : ℕ → ℕ) → length (tab n f) ≡ n
+length-tab n f = length-from-tab 0 n f
+
+at-from : (i n : ℕ) (f : ℕ → ℕ) (l : ℕ) → l < n → at (from i n f) l ≡ f (i + l)
+at-from i zero f l h = absurd (omega arith)
+at-from i (suc n) f zero h = ap f (let z : i ≡ i + 0 = omega arith in z)
+at-from i (suc n) f (suc l) h = at-from (suc i) n f l (omega arith) ∙ ap f (let z : suc i + l ≡ i + suc l = omega arith in z)
+
+pub at-tab : (n : ℕ) (f : ℕ → ℕ) (l : ℕ) → l < n → at (tab n f) l ≡ f l
+at-tab n f l h = at-from 0 n f l h ∙ ap f (let z : 0 + l ≡ l = omega arith in z)
 
 -- one more at the end
 pub map-snoc : {A B : Type 0} (f : A → B) (xs : List A) (x : A) → map f (xs ++ (x ∷ [])) ≡ map f xs ++ (f x ∷ [])

@@ -1,4 +1,5 @@
--- Demand 3, as 01's section on the list, the book and the card has it: one claim about the whole list. The proof is in proofs/Theorem.antt.
+-- Demand 3, as 01's section on the list, the book and the card has it: one claim about the whole list (Claim), and what is said beside it
+-- (Beside). The proofs are in proofs/Theorem.antt.
 -- Assumes nothing.
 use Prim.Native.Nat.{ℕ, suc, _≤_}
 use mathlib.Core.Path.{_≡_}
@@ -7,13 +8,30 @@ use mathlib.Core.List.{List, []}
 use mathlib.Core.Option.{Option, some}
 use lib.ListN.{length}
 use Rattle.protocol.specs.Said.{refused, taken}
-use Rattle.protocol.specs.Load.{load}
+use Rattle.octets.specs.Lists.{at}
+use Rattle.protocol.specs.Load.{keyLen, load}
 use Rattle.protocol.specs.Recover.{spent, recover}
 use Rattle.protocol.specs.Book.{bookTable}
-use Rattle.protocol.specs.History.{Event, call, callRecover, World, newWorld, settled, next, run, isTaken, Honest, Premises, faithfulLog, FaithfulFile}
+use Rattle.protocol.specs.History.{Call, Event, call, callRecover, World, newWorld, settled, next, run, isTaken, Honest, Premises, faithfulLog, FaithfulFile}
+use Rattle.protocol.specs.declared.Vault.{Vault}
 use Rattle.protocol.specs.declared.State.{State}
 use Rattle.protocol.specs.declared.Phase.the-variants as F
+use Rattle.protocol.specs.declared.Store.{Store}
 use Rattle.protocol.specs.declared.Store.the-variants as S
+
+-- the store sets no vault number below what it is
+abbrev pub NotLower : Vault → Store → Type 0
+NotLower x S.Nothing = Unit {0}
+NotLower x (S.W l k) = at (x .w) l ≤ k
+NotLower x (S.V l k) = at (x .v) l ≤ k
+NotLower x (S.R l k) = at (x .r) l ≤ k
+NotLower x (S.E k) = x .e ≤ k
+NotLower x (S.S k) = x .s ≤ k
+NotLower x (S.N k) = x .n ≤ k
+NotLower x (S.Record p) = Unit {0}
+NotLower x S.File = Unit {0}
+NotLower x (S.Delete p) = Unit {0}
+NotLower x S.Empty = Unit {0}
 
 module _ (key : List ℕ) where
   -- what a list comes to, from a new vault and no state
@@ -46,17 +64,26 @@ module _ (key : List ℕ) where
   abbrev pub CardHasAFile : Type 0
   CardHasAFile = (es : List Event) → Listed es → (file : List ℕ) × FaithfulFile (settled (after es) .vault .s) (settled (after es) .card) file
 
-  -- its log is at most 9 · 128 records of at most 176 bytes
-  abbrev pub LogIsShort : Type 0
-  LogIsShort = (es : List Event) → Listed es → length (faithfulLog (settled (after es) .card)) ≤ 202752
-
   pub record Claim : Type 0 where
     pub table-is-the-books : TableIsTheBooks
     pub faithful-card-is-taken : FaithfulCardIsTaken
     pub load-is-taken : LoadIsTaken
     pub card-has-a-file : CardHasAFile
+
+  -- ---- beside it
+
+  -- a faithful log is at most 9 · 128 records of at most 176 bytes
+  abbrev pub LogIsShort : Type 0
+  LogIsShort = (es : List Event) → Listed es → length (faithfulLog (settled (after es) .card)) ≤ 202752
+
+  -- the vault's numbers only rise: no store that a call names lowers one
+  abbrev pub NoStoreLowers : Type 0
+  NoStoreLowers = (es : List Event) → Listed es → (k : Call) → Honest key (after es) (call k) → NotLower (settled (after es) .vault) (next key (after es) (call k) .pending .store)
+
+  pub record Beside : Type 0 where
     pub log-is-short : LogIsShort
+    pub no-store-lowers : NoStoreLowers
 
 -- demand 3, for every key of 16 bytes
 abbrev pub Demand3 : Type 0
-Demand3 = (key : List ℕ) → length key ≡ 16 → Claim key
+Demand3 = (key : List ℕ) → length key ≡ keyLen → Claim key
