@@ -27,3 +27,4 @@ pub mod KeepCheckpoint
 pub mod KeepTruncate
 pub mod Apart
 pub mod Runs
+pub mod Theorem

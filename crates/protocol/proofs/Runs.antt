@@ -120,7 +120,7 @@ module _ (key : List ℕ) where
       (keep-at k c d (subst (λ (x : Vault). Durably (vaultTo d x)) (sym (l .same)) i) (subst (λ (x : Vault). LinkedAt key c (vaultTo d x) (c .phase) (c .due)) (sym (l .same)) (l .rest)) (subst (λ (x : Vault). Trusted (vaultTo d x) k) (sym (l .same)) h))
 
   -- an answer, or none where there is no state
-  abbrev GoodIf : Durable → Option Opened → Option Answered → Type 0
+  abbrev pub GoodIf : Durable → Option Opened → Option Answered → Type 0
   GoodIf d adds none = Unit {0}
   GoodIf d adds (some a) = GoodAnswer key d adds a
 
@@ -135,7 +135,7 @@ module _ (key : List ℕ) where
   keep-first (callTruncate position) d i h = tt
   keep-first (callRecover file log room) d i h = tt
 
-  keep-answer : (s : Option State) (k : Call) (d : Durable) → Durably d → LinkedIf key s d → Trusted d k → GoodIf d (addsOf key k) (answer s k)
+  pub keep-answer : (s : Option State) (k : Call) (d : Durable) → Durably d → LinkedIf key s d → Trusted d k → GoodIf d (addsOf key k) (answer s k)
   unfolding answer
   keep-answer none k d i l h = keep-first k d i h
   keep-answer (some c) k d i l h = keep-call k c d i l h

@@ -1,0 +1,311 @@
+-- Demand 3: since every list keeps the invariants, the table of an accepted recovery is the book's, and a faithful card is taken.
+-- Assumes nothing.
+use Prim.Native.Nat.{ℕ, zero, suc, _+_, _-_, _*_, _^_, _≤_, _<_}
+use mathlib.Core.Path.{_≡_, refl, sym, ap, ap₂, subst, _∙_}
+use mathlib.Core.Bool.{Bool, true, false, cond, not, _&&_, _||_}
+use mathlib.Core.Option.{Option, none, some}
+use mathlib.Core.Logic.{_⊎_, inl, inr}
+use mathlib.Core.List.{List, [], _∷_, List·Memᴰ}
+use native.Mathlib.Omega.{arith}
+use lib.Dec.{leb, ltb, eqb}
+use lib.ListN.{length, length-map}
+use borrow.Author.Tests.{le-leb, le-ltb, eq-eqb, ne-eqb}
+use Rattle.octets.specs.Lists.{at}
+use Rattle.reading.proofs.EveryLaws.{and-both, all-of}
+use Rattle.table.specs.Table.{lanes, emptyTable}
+use Rattle.table.proofs.OrderLaws.{clash}
+use Rattle.table.specs.declared.Table.{Table}
+use Rattle.sealed.specs.Aead.{aesGcm}
+use Rattle.sealed.specs.Record.{Opened}
+use Rattle.sealed.specs.Checkpoint.{OpenedFile, versionOf, openFile}
+use Rattle.sealed.proofs.LogTrip.{version-is}
+use Rattle.protocol.specs.Vaults.{counterMax, laneOk, vaultOk}
+use Rattle.protocol.specs.States.{listed, pointsMax, valid, isNothing}
+use Rattle.protocol.specs.Said.{Said, refused, taken, Answered, refuse}
+use Rattle.protocol.specs.Load.{keyLen, loaded, load}
+use Rattle.protocol.specs.Replay.{Read, stopped, reading, replay}
+use Rattle.protocol.specs.Recover.{logMax, spent, recovered, recoverRead, recoverLog, recoverFile, recoverFrom, recoverFirst, recoverDue, recoverPhase, recover, inService}
+use Rattle.protocol.specs.Book.{bookTable}
+use Rattle.protocol.specs.History.{Card, Event, call, Call, callRecover, World, newWorld, Lasting, settled, done, bookAfter, afterSaid, afterAnswer, answer, answerOf, addsOf, next, run, isTaken, Honest, Premises, withSealings, faithfulLog, FaithfulFile}
+use Rattle.protocol.specs.Claim.{NotLower, after, Listed, TableIsTheBooks, FaithfulCardIsTaken, LoadIsTaken, CardHasAFile, LogIsShort, NoStoreLowers, Claim, Beside, Demand3}
+use Rattle.protocol.specs.declared.Vault.{Vault}
+use Rattle.protocol.specs.declared.State.{State}
+use Rattle.protocol.specs.declared.Phase.{Phase}
+use Rattle.protocol.specs.declared.Phase.the-variants as F
+use Rattle.protocol.specs.declared.Due.{Due}
+use Rattle.protocol.specs.declared.Due.the-variants as D
+use Rattle.protocol.specs.declared.Store.{Store}
+use Rattle.protocol.specs.declared.Store.the-variants as S
+use Rattle.protocol.proofs.Basis.{Writable, fileOf, file-opens}
+use Rattle.protocol.proofs.Latest.{In, Single, Full, full-book}
+use Rattle.protocol.proofs.LaidLaws.{laidOut, laid-length}
+use Rattle.protocol.proofs.Card.{Spot, recsOf, mem-recs}
+use Rattle.protocol.proofs.Faith.{read-faithful}
+use Rattle.protocol.proofs.Invariant.{Durable, vaultTo, Lane, FileIn, SpotIn, Durably, Cold, LinkedAt, Linked, LinkedIf, Apart, Invariant, GoodSaid, GoodAnswer, known, carried, bookedTo, At}
+use Rattle.protocol.proofs.Apart.{mem-map, map-mem, faithful-log}
+use Rattle.protocol.proofs.Runs.{trusted, GoodIf, keep-answer, new-invariant, run-invariant, next-invariant}
+
+-- ---- an accepted Recover call leaves no cold state
+
+abbrev WarmSaid : Said → State → Type 0
+WarmSaid (refused n vs) c = Unit {0}
+WarmSaid (taken st n) c = c .phase ≡ F.Cold → ⊥
+
+abbrev Warm : Answered → Type 0
+Warm a = WarmSaid (a .said) (a .state)
+
+warm-refuse : (b : Bool) (c : State) (n : ℕ) (vs : List ℕ) (a : Answered) → Warm a → Warm (refuse b c n vs a)
+unfolding refuse
+warm-refuse true c n vs a h = tt
+warm-refuse false c n vs a h = h
+
+not-cold : F.Recovering ≡ F.Cold → ⊥
+not-cold e = let z : _≡_ {A = ℕ} 0 1 = cc in omega arith
+
+serving-not-cold : F.Serving ≡ F.Cold → ⊥
+serving-not-cold e = let z : _≡_ {A = ℕ} 0 1 = cc in omega arith
+
+warm-read : (c : State) (rd : Read) → Warm (recoverRead c rd)
+unfolding recoverRead recovered
+warm-read c (stopped n vs) = tt
+warm-read c (reading g) = not-cold
+
+warm-log : (c : State) (log : List ℕ) (t : Table) → Warm (recoverLog c log t)
+unfolding recoverLog
+warm-log c log t = warm-read c _
+
+warm-file : (c : State) (log : List ℕ) (o : Option OpenedFile) → Warm (recoverFile c log o)
+unfolding recoverFile
+warm-file c log none = tt
+warm-file c log (some f) = warm-refuse _ c 12 [] _ (warm-log c log _)
+
+warm-from : (c : State) (file log : List ℕ) → Warm (recoverFrom c file log)
+unfolding recoverFrom
+warm-from c file log = go (eqb (c .vault .s) 0)
+  where
+    go : (b : Bool) → Warm (cond b (refuse (not (eqb (length file) 0)) c 9 (0 ∷ []) (recoverLog c log emptyTable)) (recoverFile c log (openFile (aesGcm (c .key)) file)))
+    go true = warm-refuse _ c 9 _ _ (warm-log c log _)
+    go false = warm-file c log _
+
+warm-due : (c : State) (room : ℕ) (du : Due) → c .phase ≡ F.Recovering → Warm (recoverDue c room du)
+unfolding recoverDue inService
+warm-due c room D.RecoverSeal e = warm-refuse _ c 1 [] _ (λ f. not-cold (sym e ∙ f))
+warm-due c room (D.RecoverFile b) e = warm-refuse _ c 1 [] _ (warm-refuse _ c 3 _ _ (λ f. not-cold (sym e ∙ f)))
+warm-due c room (D.RecoverVersion b) e = warm-refuse _ c 1 [] _ (λ f. not-cold (sym e ∙ f))
+warm-due c room (D.RecoverR l) e = warm-refuse _ c 1 [] _ (λ f. not-cold (sym e ∙ f))
+warm-due c room D.RecoverEpoch e = warm-refuse _ c 1 [] _ (λ f. not-cold (sym e ∙ f))
+warm-due c room (D.RecoverV l) e = warm-refuse _ c 1 [] _ (λ f. not-cold (sym e ∙ f))
+warm-due c room D.RecoverEmpty e = serving-not-cold
+warm-due c room D.Nothing e = tt
+warm-due c room D.Record e = tt
+warm-due c room D.File e = tt
+warm-due c room D.Version e = tt
+warm-due c room (D.TruncateR l p) e = tt
+warm-due c room (D.TruncateDelete p) e = tt
+
+warm-phase : (c : State) (file log : List ℕ) (room : ℕ) (ph : Phase) → c .phase ≡ ph → Warm (recoverPhase c file log room ph)
+unfolding recoverPhase recoverFirst
+warm-phase c file log room F.Cold e = warm-refuse _ c 1 [] _ (warm-refuse _ c 3 _ _ (warm-refuse _ c 8 [] _ (warm-from c file log)))
+warm-phase c file log room F.Recovering e = warm-refuse _ c 1 [] _ (warm-due c room (c .due) e)
+warm-phase c file log room F.Serving e = tt
+
+warm : (c : State) (file log : List ℕ) (room : ℕ) → Warm (recover c file log room)
+unfolding recover
+warm c file log room = warm-phase c file log room (c .phase) refl
+
+-- ---- Load's rule
+
+or-right : (a : Bool) {b : Bool} → b ≡ true → (a || b) ≡ true
+or-right true e = refl
+or-right false e = e
+
+lane-ok : (w v r : ℕ) → Lane w v r → laneOk w v r ≡ true
+unfolding laneOk
+lane-ok w v r d = and-both (and-both (and-both (le-leb w counterMax (d .wt)) (le-leb v w (d .vw))) (le-leb r w (d .rw′))) (past (d .past))
+  where
+    past : (r ≤ v) ⊎ (r ≡ w) → (leb r v || eqb r w) ≡ true
+    past (inl h) = rw (le-leb r v h)
+    past (inr h) = or-right (leb r v) (eq-eqb r w h)
+
+vault-ok : (d : Durable) → Durably d → vaultOk (d .vault) ≡ true
+unfolding vaultOk
+vault-ok d i = and-both (and-both (and-both (le-leb (d .vault .e) counterMax (i .nums .e≤)) (le-leb (d .vault .s) counterMax (i .nums .s≤))) (le-leb (d .vault .n) counterMax (i .nums .n≤)))
+    (all-of _ lanes (λ l h. lane-ok (at (d .vault .w) l) (at (d .vault .v) l) (at (d .vault .r) l) (i .lanes .lane l)))
+
+module _ (key : List ℕ) where
+  -- what every list comes to
+  listed-invariant : (es : List Event) → Listed key es → Invariant key (after key es)
+  listed-invariant es p = run-invariant key es newWorld (new-invariant key) p
+
+  -- ---- the table
+
+  warm-table : (c : State) (d : Durable) (ph : Phase) → (ph ≡ F.Cold → ⊥) → LinkedAt key c d ph (c .due) → Full (d .book) (c .table)
+  warm-table c d F.Cold h k = absurd (h refl)
+  warm-table c d F.Recovering h k = k .table
+  warm-table c d F.Serving h k = k .table
+
+  -- a table that has the whole book is the book's
+  books-table : (d : Durable) (t : Table) → Durably d → Full (d .book) t → t ≡ bookTable (d .book)
+  books-table d t i f = full-book (d .book) t (λ r m. i .sealed .fine r (i .book .known r m)) (λ a b m n. i .sealed .single a b (i .book .known a m) (i .book .known b n)) f
+
+  -- what a Recover call leaves
+  after-recover : (w : World) (c : State) (file log : List ℕ) (room : ℕ) → w .state ≡ some c
+      → next key w (call (callRecover file log room)) ≡ afterSaid (recover c file log room .said) (settled w) (some c) none (recover c file log room .state) (recover c file log room .put)
+  unfolding next afterAnswer answer answerOf addsOf
+  after-recover w c file log room q = ap (λ (s : Option State). afterAnswer (settled w) s none (answer s (callRecover file log room))) q
+
+  abbrev HasBooks : World → Type 0
+  HasBooks w = (d : State) × (w .state ≡ some d) × (d .table ≡ bookTable (w .lasting .book))
+
+  safe-said : (sa : Said) (a : Lasting) (s : Option State) (c : State) (put : List ℕ) → WarmSaid sa c → isTaken sa ≡ true → Invariant key (afterSaid sa a s none c put) → HasBooks (afterSaid sa a s none c put)
+  unfolding afterSaid isTaken done bookAfter
+  safe-said (refused n vs) a s c put h e i = clash (sym e)
+  safe-said (taken st n) a s c put h e i =
+      let d = i .after in
+      let f = warm-table c d (c .phase) h (i .link .rest) in
+      (c, refl, books-table d (c .table) (i .then) f ∙ ap bookTable (sym (i .apart′ .book)))
+
+  pub safe : TableIsTheBooks key
+  safe es p c q file log room h yea =
+      let w = after key es in
+      let e = after-recover w c file log room q in
+      let i = next-invariant key w (call (callRecover file log room)) (listed-invariant es p) h in
+      subst HasBooks (sym e) (safe-said (recover c file log room .said) (settled w) (some c) (recover c file log room .state) (recover c file log room .put) (warm c file log room) yea (subst (Invariant key) e i))
+
+  -- ---- the faithful card
+
+  -- what a call says where a refusal is passed by, and where it decides
+  past-refuse : (b : Bool) (c : State) (n : ℕ) (vs : List ℕ) (a : Answered) (x : Said) → b ≡ false → a .said ≡ x → refuse b c n vs a .said ≡ x
+  unfolding refuse
+  past-refuse true c n vs a x e f = clash e
+  past-refuse false c n vs a x e f = f
+
+  at-refuse : (b : Bool) (c : State) (n : ℕ) (vs : List ℕ) (a : Answered) (x : Said) → a .said ≡ x → refuse b c n vs a .said ≡ cond b (refused n vs) x
+  unfolding refuse
+  at-refuse true c n vs a x f = refl
+  at-refuse false c n vs a x f = f
+
+  -- a faithful log is read to its end
+  live-log : (c : State) (d : Durable) (t : Table) → c .key ≡ key → Durably (At c d) → recoverLog c (laidOut key (recsOf (d .spots))) t .said ≡ taken (S.N (suc (c .vault .n))) 0
+  unfolding recoverLog recoverRead
+  live-log c d t kk i =
+      let r = read-faithful key (c .vault) (i .card .top) (In (d .sealed))
+      (λ y m a b. let w = i .book .whole (y .lane) (y .number) a b in let e : w .0 ≡ y = i .sealed .single (w .0) y (i .book .known (w .0) (w .1)) m (w .2) (w .3) in sym (ap (λ (x : Opened). x .epoch) e) ∙ w .4)
+      (i .sealed .fine) (d .spots) t (i .lanes .rlen) (i .card .consec) (i .card .known) (i .card .reach) in
+      rw (kk, r .1)
+
+  -- and its checkpoint is that of a version that is asked for
+  live-file : (c : State) (d : Durable) (a : Lasting) (s : ℕ) (file : List ℕ) → c .vault .s ≡ s → c .key ≡ key → Durably (At c d) → Apart key a d → FaithfulFile s (a .card) file
+      → recoverFrom c file (laidOut key (recsOf (d .spots))) .said ≡ taken (S.N (suc (c .vault .n))) 0
+  unfolding FaithfulFile recoverFrom recoverFile
+  live-file c d a zero file q kk i h f =
+      rw (eq-eqb (c .vault .s) 0 q) (past-refuse _ c 9 (0 ∷ []) _ _ (rw f) (live-log c d emptyTable kk i))
+  live-file c d a (suc s) file q kk i h f =
+      let m = mem-map (fileOf key) (d .cards) file (subst (λ (x : List (List ℕ)). List·Memᴰ file x) (h .files) (f .0)) in
+      let g = m .0 in
+      let known = i .kept .known g (m .1) in
+      let fw = i .files .fine g known in
+      let o : openFile (aesGcm (c .key)) file ≡ some g = ap₂ (λ (k b : List ℕ). openFile (aesGcm k) b) kk (m .2) ∙ file-opens key g fw in
+      let v : versionOf file ≡ g .version = ap versionOf (m .2) ∙ version-is (aesGcm key) (g .version) (g .seal) (g .table) (omega (arith, fw .version)) in
+      let e : g .version ≡ c .vault .s = sym v ∙ f .1 ∙ sym q in
+      let nz : eqb (c .vault .s) 0 ≡ false = ne-eqb (c .vault .s) 0 (λ z. let y : suc s ≡ 0 = sym q ∙ z in absurd (omega arith)) in
+      rw (nz, o) (past-refuse _ c 12 [] _ _ (rw (eq-eqb (g .version) (c .vault .s) e)) (live-log c d (g .table) kk i))
+
+  cold-valid : (c : State) → vaultOk (c .vault) ≡ true → Cold key c (c .due) → (valid c && isNothing (c .due)) ≡ true
+  unfolding valid
+  cold-valid c v k = and-both (and-both (and-both v (le-leb (c .journal .count) listed (omega (arith, k .listed-none)))) (le-leb (c .points .count) pointsMax (omega (arith, k .pointed-none)))) (rw (k .due))
+
+  log-short : (d : Durable) → Durably d → length (laidOut key (recsOf (d .spots))) ≤ 202752
+  log-short d i =
+      let l = laid-length key (recsOf (d .spots)) (λ r m. let s = mem-recs (d .spots) r m in subst Writable (sym (s .2)) (i .sealed .fine (s .0 .rec) (i .card .known (s .0) (s .1)))) in
+      let n = length-map (d .spots) (λ (s : Spot). s .rec) in
+      let f = i .card .few in
+      omega arith
+
+  live-cold : (c : State) (d : Durable) (a : Lasting) (file : List ℕ) (room : ℕ) → Durably (At c d) → Cold key c (c .due) → Apart key a d → FaithfulFile (c .vault .s) (a .card) file
+      → recoverPhase c file (laidOut key (recsOf (d .spots))) room F.Cold .said ≡ cond (spent (c .vault)) (refused 8 []) (taken (S.N (suc (c .vault .n))) 0)
+  unfolding recoverPhase recoverFirst
+  live-cold c d a file room i k h f =
+      let ll = log-short (At c d) i in
+      past-refuse _ c 1 [] _ _ (rw (cold-valid c (vault-ok (At c d) i) k))
+      (past-refuse _ c 3 (logMax ∷ []) _ _ (le-ltb logMax (length (laidOut key (recsOf (d .spots)))) (omega arith))
+      (at-refuse (spent (c .vault)) c 8 [] _ _ (live-file c d a (c .vault .s) file refl (k .key-is) i h f)))
+
+  -- with the state's own numbers, and then the vault's
+  live-at : (c : State) (d : Durable) (a : Lasting) (file : List ℕ) (room : ℕ) → c .phase ≡ F.Cold → Durably d → Linked key c d → Apart key a d → FaithfulFile (a .vault .s) (a .card) file
+      → recover c file (faithfulLog (a .card)) room .said ≡ cond (spent (a .vault)) (refused 8 []) (taken (S.N (suc (a .vault .n))) 0)
+  unfolding recover
+  live-at c d a file room e i l h f =
+      let sa : a .vault ≡ c .vault = h .vault ∙ sym (l .same) in
+      let lo = faithful-log key a d h (i .card .rising) in
+      let co : Cold key c (c .due) = subst (λ (ph : Phase). LinkedAt key c d ph (c .due)) e (l .rest) in
+      let i′ : Durably (At c d) = subst (λ (x : Vault). Durably (vaultTo d x)) (sym (l .same)) i in
+      subst (λ (x : Vault). recoverPhase c file (faithfulLog (a .card)) room (c .phase) .said ≡ cond (spent x) (refused 8 []) (taken (S.N (suc (x .n))) 0)) (sym sa)
+      (ap₂ (λ (ph : Phase) (log : List ℕ). recoverPhase c file log room ph .said) e lo ∙ live-cold c d a file room i′ co h (subst (λ (x : Vault). FaithfulFile (x .s) (a .card) file) sa f))
+
+  pub live : FaithfulCardIsTaken key
+  live es p c q e file room f =
+      let i = listed-invariant es p in
+      live-at c (i .after) (settled (after key es)) file room e (i .then) (subst (λ (s : Option State). LinkedIf key s (i .after)) q (i .link)) (i .apart′) f
+
+  -- ---- Load, the file, the length
+
+  load-at : (x : Vault) → length key ≡ keyLen → vaultOk x ≡ true → load x key .said ≡ taken S.Nothing 0
+  unfolding load refuse
+  load-at x long v = rw (v, eq-eqb (length key) keyLen long)
+
+  pub loads : length key ≡ keyLen → LoadIsTaken key
+  loads long es p =
+      let i = listed-invariant es p in
+      load-at (settled (after key es) .vault) long (ap vaultOk (i .apart′ .vault) ∙ vault-ok (i .after) (i .then))
+
+  has-file : (s : ℕ) (d : Durable) (a : Lasting) → d .vault .s ≡ s → Durably d → Apart key a d → (file : List ℕ) × FaithfulFile s (a .card) file
+  unfolding FaithfulFile
+  has-file zero d a q i h = ([], refl)
+  has-file (suc s) d a q i h =
+      let k = i .kept .have (omega arith) in
+      let g = k .0 in
+      let fw = i .files .fine g (i .kept .known g (k .1)) in (
+        fileOf key g,
+        (
+          subst (λ (x : List (List ℕ)). List·Memᴰ (fileOf key g) x) (sym (h .files)) (map-mem (fileOf key) (d .cards) g (k .1)),
+          version-is (aesGcm key) (g .version) (g .seal) (g .table) (omega (arith, fw .version)) ∙ k .2 ∙ q,
+        ),
+      )
+
+  pub files : CardHasAFile key
+  files es p = let i = listed-invariant es p in has-file (settled (after key es) .vault .s) (i .after) (settled (after key es)) (ap (λ (x : Vault). x .s) (sym (i .apart′ .vault))) (i .then) (i .apart′)
+
+  pub short : LogIsShort key
+  short es p =
+      let i = listed-invariant es p in
+      subst (λ (x : List ℕ). length x ≤ 202752) (sym (faithful-log key (settled (after key es)) (i .after) (i .apart′) (i .then .card .rising))) (log-short (i .after) (i .then))
+
+  -- ---- no store lowers a vault number
+
+  said-rises : (sa : Said) (a : Lasting) (s : Option State) (adds : Option Opened) (c : State) (put : List ℕ) (d : Durable) → GoodSaid key sa c put adds d → NotLower (d .vault) (afterSaid sa a s adds c put .pending .store)
+  unfolding afterSaid
+  said-rises (refused n vs) a s adds c put d g = tt
+  said-rises (taken st n) a s adds c put d (o, g) = g .rises
+
+  answer-rises : (a : Lasting) (s : Option State) (adds : Option Opened) (r : Option Answered) (d : Durable) → GoodIf key d adds r → NotLower (d .vault) (afterAnswer a s adds r .pending .store)
+  unfolding afterAnswer
+  answer-rises a s adds none d g = tt
+  answer-rises a s adds (some r) d g = said-rises (r .said) a s adds (r .state) (r .put) d g
+
+  pub rises : NoStoreLowers key
+  unfolding next
+  rises es p k h =
+      let w = after key es in
+      let i = listed-invariant es p in
+      let d = i .after in
+      subst (λ (x : Vault). NotLower x (afterAnswer (settled w) (w .state) (addsOf key k) (answer (w .state) k) .pending .store)) (sym (i .apart′ .vault))
+      (answer-rises (settled w) (w .state) (addsOf key k) (answer (w .state) k) d (keep-answer key (w .state) k d (i .then) (i .link) (trusted key w d k (i .apart′) h)))
+
+-- ---- DEMAND 3
+
+pub demand-3 : Demand3
+demand-3 key long = record { table-is-the-books = safe key; faithful-card-is-taken = live key; load-is-taken = loads key long; card-has-a-file = files key }
+
+pub beside : (key : List ℕ) → Beside key
+beside key = record { log-is-short = short key; no-store-lowers = rises key }
