@@ -27,7 +27,7 @@ use mathlib.Core.Logic.{_⊎_}
 use mathlib.Core.List.{List, [], _∷_, _++_, map, List·Memᴰ}
 use lib.ListN.{length}
 use Rattle.octets.specs.Lists.{at}
-use Rattle.reading.specs.Transaction.{maxText, legal}
+use Rattle.reading.specs.Transaction.{legal}
 use Rattle.table.specs.Table.{lanes, emptyTable}
 use Rattle.sealed.specs.Record.{Opened}
 use Rattle.sealed.specs.Checkpoint.{OpenedFile}
@@ -49,6 +49,7 @@ use Rattle.protocol.specs.declared.Due.{Due}
 use Rattle.protocol.specs.declared.Due.the-variants as D
 use Rattle.protocol.specs.declared.Store.{Store}
 use Rattle.protocol.specs.declared.Store.the-variants as S
+use Rattle.protocol.proofs.VaultLaws.{LaneFine}
 use Rattle.protocol.proofs.Basis.{Writable, FileWritable, bytesOf, fileOf}
 use Rattle.protocol.proofs.Latest.{In, Single, Full, Upto}
 use Rattle.protocol.proofs.Hostile.{Whole}
@@ -118,17 +119,11 @@ FileIn fs f = List·Memᴰ f fs
 abbrev pub SpotIn : List Spot → Spot → Type 0
 SpotIn ps p = List·Memᴰ p ps
 
-pub record Lane (w v r : ℕ) : Type 0 where
-  pub vw : v ≤ w
-  pub rw′ : r ≤ w
-  pub wt : w ≤ counterMax
-  pub past : (r ≤ v) ⊎ (r ≡ w)
-
 pub record Lanes (w v r : List ℕ) : Type 0 where
   pub wlen : length w ≡ lanes
   pub vlen : length v ≡ lanes
   pub rlen : length r ≡ lanes
-  pub lane : (l : ℕ) → Lane (at w l) (at v l) (at r l)
+  pub lane : (l : ℕ) → LaneFine (at w l) (at v l) (at r l)
 
 pub record Numbers (e s n : ℕ) : Type 0 where
   pub e≤ : e ≤ counterMax

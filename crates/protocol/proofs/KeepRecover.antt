@@ -160,13 +160,13 @@ module _ (key : List ℕ) where
       let h = r .stored .2 in
       let x : Vault = setR (c .vault) l (at (c .vault .w) l) in
       let ln = i .lanes .lane l in
-      let u = up-set (c .vault .r) l (at (c .vault .w) l) (omega (arith, i .lanes .rlen)) (ln .rw′) in
+      let u = up-set (c .vault .r) l (at (c .vault .w) l) (omega (arith, i .lanes .rlen)) (ln .gone) in
       let i′ = lanes-r l (at (c .vault .w) l) h (omega arith) (inr (omega arith)) (i .lanes) in
       good-refuse _ none _ c 1 [] _ (λ _. (
         quiet,
         record {
           puts = tt;
-          rises = ln .rw′;
+          rises = ln .gone;
           now = i;
           then = record { lanes = i′; nums = i .nums; sealed = i .sealed; book = book-r u (i .book); files = files-r (x .r) (s .some-s) (λ f m v. full-upto (x .r) (s .full f m v)) (i .files); card = card-r u (i .card); kept = i .kept };
           link = link-rec c (vaultTo d x) x (afterR (c .vault) l) (r .key-is) e refl (r .table)
@@ -201,14 +201,14 @@ module _ (key : List ℕ) where
       let h = r .stored .2 in
       let x : Vault = setV (c .vault) l (at (c .vault .w) l) in
       let ln = i .lanes .lane l in
-      let u = up-set (c .vault .v) l (at (c .vault .w) l) (omega (arith, i .lanes .vlen)) (ln .vw) in
+      let u = up-set (c .vault .v) l (at (c .vault .w) l) (omega (arith, i .lanes .vlen)) (ln .seen) in
       let i′ = lanes-v l (at (c .vault .w) l) h (omega arith) (inr (let z = r .stored .1 l in omega arith)) (i .lanes) in
-      let f : (k : ℕ) → at (x .v) k ≤ at (x .r) k = λ k. let a = i′ .lane k .vw in let z = r .stored .1 k in omega arith in
+      let f : (k : ℕ) → at (x .v) k ≤ at (x .r) k = λ k. let a = i′ .lane k .seen in let z = r .stored .1 k in omega arith in
       good-refuse _ none _ c 1 [] _ (λ _. (
         quiet,
         record {
           puts = tt;
-          rises = ln .vw;
+          rises = ln .seen;
           now = i;
           then = record { lanes = i′; nums = i .nums; sealed = i .sealed; book = book-free (c .vault .e) u f (i .book); files = i .files; card = card-free f (i .card); kept = i .kept };
           link = link-rec c (vaultTo d x) x (afterV l) (r .key-is) e refl (r .table)

@@ -34,7 +34,7 @@ use Rattle.protocol.proofs.KeepCold.{not-false}
 use Rattle.protocol.proofs.Phases.{card-of, link-serving, when-serving}
 
 -- what findPoint found
-found-in : (pos : ℕ) (ps : List Point) (p : Point) → findPoint pos ps ≡ some p → List·Memᴰ p ps × (p .position ≡ pos)
+pub found-in : (pos : ℕ) (ps : List Point) (p : Point) → findPoint pos ps ≡ some p → List·Memᴰ p ps × (p .position ≡ pos)
 unfolding findPoint
 found-in pos [] p e = let z : _≡_ {A = ℕ} 0 1 = cc in absurd (omega arith)
 found-in pos (q ∷ ps) p e = go (eqb (q .position) pos) refl e (λ k. found-in pos ps p k)

@@ -1,11 +1,16 @@
 -- Theorems about the definitions.
--- BlankLaws: the blank state. RefusalLaws: refusals. Basis: what the theorem takes from the layers below. Lanes: an array of lanes.
--- Latest: the latest reading over a set of records. BookLaws: the book's table. MissingLaws: lanes that have not reached V.
--- Hostile: reading any log. LaidLaws, Card, Faith: reading the log of a card that kept faith.
+-- BlankLaws: the blank state. RefusalLaws: refusals. VaultLaws: Load's rule as facts, and the stores that keep it. TallyLaws: the stores of
+-- recovery and truncation, in order.
+-- Basis: what the theorem takes from the layers below. Lanes: an array of lanes. Latest: the latest reading over a set of records.
+-- BookLaws: the book's table. MissingLaws: lanes that have not reached V. Hostile: reading any log. LaidLaws, Card, Faith: reading the log of
+-- a card that kept faith. SheetLaws: the bench sheet.
 -- Invariant: what holds of every list. StoreLaws: how each invariant takes each store. Listed, Phases: the state's lists, its phase.
--- KeepRecover, KeepCold, KeepAccept, KeepPoint, KeepTruncate: each call keeps the invariant. Theorem: demand 3.
+-- KeepRecover, KeepCold, KeepAccept, KeepPoint, KeepCheckpoint, KeepTruncate: each call keeps the invariants. Apart: bytes and what they hold.
+-- Runs: every list keeps the invariants. Theorem: demand 3.
 pub mod BlankLaws
 pub mod RefusalLaws
+pub mod VaultLaws
+pub mod TallyLaws
 pub mod Basis
 pub mod Lanes
 pub mod Latest
@@ -13,6 +18,7 @@ pub mod BookLaws
 pub mod MissingLaws
 pub mod Hostile
 pub mod LaidLaws
+pub mod SheetLaws
 pub mod Card
 pub mod Faith
 pub mod Invariant

@@ -65,7 +65,7 @@ pub card-of : {w v r : List ℕ} {s : ℕ} {ms : List Mark} {ps : List Point} {f
 card-of {w = w} sealed dl sv ex kn = record {
   top = at w;
   consec = sv .consec;
-  reach = λ l h. (let a = dl .lane l .vw in omega arith, let a = ex l in omega arith);
+  reach = λ l h. (let a = dl .lane l .seen in omega arith, let a = ex l in omega arith);
   known = kn;
   rising = sv .rising;
   few = let a = sv .total in let b = sv .eight in let c = sv .few in omega arith;

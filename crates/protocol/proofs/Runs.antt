@@ -48,7 +48,7 @@ newDurable = record { vault = newVault; book = []; sealed = []; files = []; spot
 new-durably : Durably newDurable
 unfolding newVault
 new-durably = record {
-  lanes = record { wlen = refl; vlen = refl; rlen = refl; lane = λ l. let z = at-zero l in record { vw = omega arith; rw′ = omega arith; wt = omega arith; past = inl (omega arith) } };
+  lanes = record { wlen = refl; vlen = refl; rlen = refl; lane = λ l. let z = at-zero l in record { most = omega arith; seen = omega arith; gone = omega arith; past = inl (omega arith) } };
   nums = record { e≤ = omega arith; s≤ = omega arith; n≤ = omega arith };
   sealed = record { small = λ r m. absurd (List·Memᴰ·not-nil m); fine = λ r m. absurd (List·Memᴰ·not-nil m); single = λ a b m. absurd (List·Memᴰ·not-nil m) };
   book = record { known = λ r m. absurd (List·Memᴰ·not-nil m); seen = λ r m. absurd (List·Memᴰ·not-nil m); whole = λ l n p q. absurd (let z = at-zero l in omega arith) };

@@ -14,34 +14,35 @@ use Rattle.sealed.specs.Record.{Opened}
 use Rattle.sealed.specs.Checkpoint.{OpenedFile}
 use Rattle.protocol.specs.Vaults.{counterMax}
 use Rattle.protocol.proofs.Basis.{Writable, FileWritable}
+use Rattle.protocol.proofs.VaultLaws.{LaneFine}
 use Rattle.protocol.proofs.Lanes.{Put, same, other, put}
 use Rattle.protocol.proofs.Latest.{In, Full, Upto, full-upto, upto-add}
 use Rattle.protocol.proofs.Card.{Spot}
-use Rattle.protocol.proofs.Invariant.{FileIn, Lane, Lanes, SealedOnce, Booked, Filed, Carded, CardFiled, HasNext, Stale, Caught}
+use Rattle.protocol.proofs.Invariant.{FileIn, Lanes, SealedOnce, Booked, Filed, Carded, CardFiled, HasNext, Stale, Caught}
 
 -- lanes
 pub lanes-w : {w v r : List ℕ} (l : ℕ) → l < lanes → at w l < counterMax → ((k : ℕ) → at r k ≤ at v k) → Lanes w v r → Lanes (set w l (suc (at w l))) v r
 lanes-w {w} {v} {r} l h lt o d = record { wlen = length-set w l _ ∙ d .wlen; vlen = d .vlen; rlen = d .rlen; lane = λ k. go k (d .lane k) (o k) (put w l (suc (at w l)) (omega (arith, d .wlen)) k) }
   where
-    go : (k : ℕ) → Lane (at w k) (at v k) (at r k) → at r k ≤ at v k → Put w l (suc (at w l)) k → Lane (at (set w l (suc (at w l))) k) (at v k) (at r k)
-    go k a o (same e q) = let z : at w k ≡ at w l = ap (at w) e in record { vw = omega arith; rw′ = omega arith; wt = omega arith; past = inl o }
+    go : (k : ℕ) → LaneFine (at w k) (at v k) (at r k) → at r k ≤ at v k → Put w l (suc (at w l)) k → LaneFine (at (set w l (suc (at w l))) k) (at v k) (at r k)
+    go k a o (same e q) = let z : at w k ≡ at w l = ap (at w) e in record { most = omega arith; seen = omega arith; gone = omega arith; past = inl o }
     go k a o (other n q) = rw q a
 
 pub lanes-v : {w v r : List ℕ} (l x : ℕ) → l < lanes → x ≤ at w l → (at r l ≤ x) ⊎ (at w l ≤ at r l) → Lanes w v r → Lanes w (set v l x) r
 lanes-v {w} {v} {r} l x h lt o d = record { wlen = d .wlen; vlen = length-set v l x ∙ d .vlen; rlen = d .rlen; lane = λ k. go k (d .lane k) o (put v l x (omega (arith, d .vlen)) k) }
   where
-    go : (k : ℕ) → Lane (at w k) (at v k) (at r k) → (at r l ≤ x) ⊎ (at w l ≤ at r l) → Put v l x k → Lane (at w k) (at (set v l x) k) (at r k)
+    go : (k : ℕ) → LaneFine (at w k) (at v k) (at r k) → (at r l ≤ x) ⊎ (at w l ≤ at r l) → Put v l x k → LaneFine (at w k) (at (set v l x) k) (at r k)
     go k a o (other n q) = rw q a
-    go k a (inl o) (same e q) = let z : at w k ≡ at w l = ap (at w) e in let y : at r k ≡ at r l = ap (at r) e in record { vw = omega arith; rw′ = omega arith; wt = omega arith; past = inl (omega arith) }
-    go k a (inr o) (same e q) = let z : at w k ≡ at w l = ap (at w) e in let y : at r k ≡ at r l = ap (at r) e in record { vw = omega arith; rw′ = omega arith; wt = omega arith; past = inr (omega arith) }
+    go k a (inl o) (same e q) = let z : at w k ≡ at w l = ap (at w) e in let y : at r k ≡ at r l = ap (at r) e in record { most = omega arith; seen = omega arith; gone = omega arith; past = inl (omega arith) }
+    go k a (inr o) (same e q) = let z : at w k ≡ at w l = ap (at w) e in let y : at r k ≡ at r l = ap (at r) e in record { most = omega arith; seen = omega arith; gone = omega arith; past = inr (omega arith) }
 
 pub lanes-r : {w v r : List ℕ} (l x : ℕ) → l < lanes → x ≤ at w l → (x ≤ at v l) ⊎ (at w l ≤ x) → Lanes w v r → Lanes w v (set r l x)
 lanes-r {w} {v} {r} l x h lt o d = record { wlen = d .wlen; vlen = d .vlen; rlen = length-set r l x ∙ d .rlen; lane = λ k. go k (d .lane k) o (put r l x (omega (arith, d .rlen)) k) }
   where
-    go : (k : ℕ) → Lane (at w k) (at v k) (at r k) → (x ≤ at v l) ⊎ (at w l ≤ x) → Put r l x k → Lane (at w k) (at v k) (at (set r l x) k)
+    go : (k : ℕ) → LaneFine (at w k) (at v k) (at r k) → (x ≤ at v l) ⊎ (at w l ≤ x) → Put r l x k → LaneFine (at w k) (at v k) (at (set r l x) k)
     go k a o (other n q) = rw q a
-    go k a (inl o) (same e q) = let z : at w k ≡ at w l = ap (at w) e in let y : at v k ≡ at v l = ap (at v) e in record { vw = omega arith; rw′ = omega arith; wt = omega arith; past = inl (omega arith) }
-    go k a (inr o) (same e q) = let z : at w k ≡ at w l = ap (at w) e in let y : at v k ≡ at v l = ap (at v) e in record { vw = omega arith; rw′ = omega arith; wt = omega arith; past = inr (omega arith) }
+    go k a (inl o) (same e q) = let z : at w k ≡ at w l = ap (at w) e in let y : at v k ≡ at v l = ap (at v) e in record { most = omega arith; seen = omega arith; gone = omega arith; past = inl (omega arith) }
+    go k a (inr o) (same e q) = let z : at w k ≡ at w l = ap (at w) e in let y : at v k ≡ at v l = ap (at v) e in record { most = omega arith; seen = omega arith; gone = omega arith; past = inr (omega arith) }
 
 -- an array that a store raises
 abbrev pub Up : List ℕ → List ℕ → Type 0

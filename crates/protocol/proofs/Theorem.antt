@@ -1,7 +1,7 @@
 -- Demand 3: since every list keeps the invariants, the table of an accepted recovery is the book's, and a faithful card is taken.
 -- Assumes nothing.
 use Prim.Native.Nat.{ℕ, zero, suc, _+_, _-_, _*_, _^_, _≤_, _<_}
-use mathlib.Core.Path.{_≡_, refl, sym, ap, ap₂, subst, _∙_}
+use mathlib.Core.Path.{_≡_, refl, sym, ap, ap₂, subst, subst₂, _∙_}
 use mathlib.Core.Bool.{Bool, true, false, cond, not, _&&_, _||_}
 use mathlib.Core.Option.{Option, none, some}
 use mathlib.Core.Logic.{_⊎_, inl, inr}
@@ -11,7 +11,7 @@ use lib.Dec.{leb, ltb, eqb}
 use lib.ListN.{length, length-map}
 use borrow.Author.Tests.{le-leb, le-ltb, eq-eqb, ne-eqb}
 use Rattle.octets.specs.Lists.{at}
-use Rattle.reading.proofs.EveryLaws.{and-both, all-of}
+use Rattle.reading.proofs.EveryLaws.{and-both}
 use Rattle.table.specs.Table.{lanes, emptyTable}
 use Rattle.table.proofs.OrderLaws.{clash}
 use Rattle.table.specs.declared.Table.{Table}
@@ -19,15 +19,16 @@ use Rattle.sealed.specs.Aead.{aesGcm}
 use Rattle.sealed.specs.Record.{Opened}
 use Rattle.sealed.specs.Checkpoint.{OpenedFile, versionOf, openFile}
 use Rattle.sealed.proofs.LogTrip.{version-is}
-use Rattle.protocol.specs.Vaults.{counterMax, laneOk, vaultOk}
+use Rattle.protocol.specs.Vaults.{vaultOk}
 use Rattle.protocol.specs.States.{listed, pointsMax, valid, isNothing}
 use Rattle.protocol.specs.Said.{Said, refused, taken, Answered, refuse}
 use Rattle.protocol.specs.Load.{keyLen, loaded, load}
+use Rattle.protocol.specs.Truncate.{pointsOf}
 use Rattle.protocol.specs.Replay.{Read, stopped, reading, replay}
 use Rattle.protocol.specs.Recover.{logMax, spent, recovered, recoverRead, recoverLog, recoverFile, recoverFrom, recoverFirst, recoverDue, recoverPhase, recover, inService}
 use Rattle.protocol.specs.Book.{bookTable}
 use Rattle.protocol.specs.History.{Card, Event, call, Call, callRecover, World, newWorld, Lasting, settled, done, bookAfter, afterSaid, afterAnswer, answer, answerOf, addsOf, next, run, isTaken, Honest, Premises, withSealings, faithfulLog, FaithfulFile}
-use Rattle.protocol.specs.Claim.{NotLower, after, Listed, TableIsTheBooks, FaithfulCardIsTaken, LoadIsTaken, CardHasAFile, LogIsShort, NoStoreLowers, Claim, Beside, Demand3}
+use Rattle.protocol.specs.Claim.{NotLower, after, Listed, TableIsTheBooks, FaithfulCardIsTaken, LoadIsTaken, CardHasAFile, LogIsShort, NoStoreLowers, TruncatesNine, Claim, Beside, Demand3}
 use Rattle.protocol.specs.declared.Vault.{Vault}
 use Rattle.protocol.specs.declared.State.{State}
 use Rattle.protocol.specs.declared.Phase.{Phase}
@@ -36,12 +37,15 @@ use Rattle.protocol.specs.declared.Due.{Due}
 use Rattle.protocol.specs.declared.Due.the-variants as D
 use Rattle.protocol.specs.declared.Store.{Store}
 use Rattle.protocol.specs.declared.Store.the-variants as S
+use Rattle.protocol.proofs.VaultLaws.{vault-fine, fine-vault, fine-state}
 use Rattle.protocol.proofs.Basis.{Writable, fileOf, file-opens}
 use Rattle.protocol.proofs.Latest.{In, Single, Full, full-book}
 use Rattle.protocol.proofs.LaidLaws.{laidOut, laid-length}
 use Rattle.protocol.proofs.Card.{Spot, recsOf, mem-recs}
 use Rattle.protocol.proofs.Faith.{read-faithful}
-use Rattle.protocol.proofs.Invariant.{Durable, vaultTo, Lane, FileIn, SpotIn, Durably, Cold, LinkedAt, Linked, LinkedIf, Apart, Invariant, GoodSaid, GoodAnswer, known, carried, bookedTo, At}
+use Rattle.protocol.proofs.Invariant.{Durable, vaultTo, Durably, Cold, Service, LinkedAt, Linked, LinkedIf, Apart, Invariant, GoodSaid, GoodAnswer, known, carried, bookedTo, At}
+use Rattle.protocol.proofs.KeepTruncate.{found-in}
+use Rattle.protocol.proofs.TallyLaws.{truncate-tally}
 use Rattle.protocol.proofs.Apart.{mem-map, map-mem, faithful-log}
 use Rattle.protocol.proofs.Runs.{trusted, GoodIf, keep-answer, new-invariant, run-invariant, next-invariant}
 
@@ -115,22 +119,8 @@ warm c file log room = warm-phase c file log room (c .phase) refl
 
 -- ---- Load's rule
 
-or-right : (a : Bool) {b : Bool} → b ≡ true → (a || b) ≡ true
-or-right true e = refl
-or-right false e = e
-
-lane-ok : (w v r : ℕ) → Lane w v r → laneOk w v r ≡ true
-unfolding laneOk
-lane-ok w v r d = and-both (and-both (and-both (le-leb w counterMax (d .wt)) (le-leb v w (d .vw))) (le-leb r w (d .rw′))) (past (d .past))
-  where
-    past : (r ≤ v) ⊎ (r ≡ w) → (leb r v || eqb r w) ≡ true
-    past (inl h) = rw (le-leb r v h)
-    past (inr h) = or-right (leb r v) (eq-eqb r w h)
-
 vault-ok : (d : Durable) → Durably d → vaultOk (d .vault) ≡ true
-unfolding vaultOk
-vault-ok d i = and-both (and-both (and-both (le-leb (d .vault .e) counterMax (i .nums .e≤)) (le-leb (d .vault .s) counterMax (i .nums .s≤))) (le-leb (d .vault .n) counterMax (i .nums .n≤)))
-    (all-of _ lanes (λ l h. lane-ok (at (d .vault .w) l) (at (d .vault .v) l) (at (d .vault .r) l) (i .lanes .lane l)))
+vault-ok d i = fine-vault (d .vault) (record { e = i .nums .e≤; s = i .nums .s≤; n = i .nums .n≤; lane = λ l h. i .lanes .lane l })
 
 module _ (key : List ℕ) where
   -- what every list comes to
@@ -302,10 +292,25 @@ module _ (key : List ℕ) where
       subst (λ (x : Vault). NotLower x (afterAnswer (settled w) (w .state) (addsOf key k) (answer (w .state) k) .pending .store)) (sym (i .apart′ .vault))
       (answer-rises (settled w) (w .state) (addsOf key k) (answer (w .state) k) d (keep-answer key (w .state) k d (i .then) (i .link) (trusted key w d k (i .apart′) h)))
 
+  -- ---- Truncate's stores
+
+  -- a state in service is one that may be handed
+  service-valid : (c : State) (d : Durable) → Durably d → c .vault ≡ d .vault → Service key c d D.Nothing → valid c ≡ true
+  service-valid c d i same s = fine-state c (record { vault = vault-fine (c .vault) (ap vaultOk same ∙ vault-ok d i); listed = s .arrays .fewer; pointed = s .arrays .eighth })
+
+  pub nine : TruncatesNine key
+  nine es p c q ph du position x f cv =
+      let i = listed-invariant es p in
+      let d = i .after in
+      let l : Linked key c d = subst (λ (s : Option State). LinkedIf key s d) q (i .link) in
+      let s : Service key c d D.Nothing = subst₂ (LinkedAt key c d) ph du (l .rest) in
+      let o = s .common .pointed x (found-in position (pointsOf (c .points)) x f .0) in
+      truncate-tally c position x (service-valid c d (i .then) (l .same) s) ph du f cv (λ k h. o .visible k)
+
 -- ---- DEMAND 3
 
 pub demand-3 : Demand3
 demand-3 key long = record { table-is-the-books = safe key; faithful-card-is-taken = live key; load-is-taken = loads key long; card-has-a-file = files key }
 
 pub beside : (key : List ℕ) → Beside key
-beside key = record { log-is-short = short key; no-store-lowers = rises key }
+beside key = record { log-is-short = short key; no-store-lowers = rises key; truncates-nine = nine key }

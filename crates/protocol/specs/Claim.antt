@@ -10,12 +10,16 @@ use lib.ListN.{length}
 use Rattle.protocol.specs.Said.{refused, taken}
 use Rattle.octets.specs.Lists.{at}
 use Rattle.protocol.specs.Load.{keyLen, load}
+use Rattle.protocol.specs.Truncate.{pointsOf, findPoint, truncate}
 use Rattle.protocol.specs.Recover.{spent, recover}
+use Rattle.protocol.specs.Tally.{truncateStores, Names, Dropped}
 use Rattle.protocol.specs.Book.{bookTable}
 use Rattle.protocol.specs.History.{Call, Event, call, callRecover, World, newWorld, settled, next, run, isTaken, Honest, Premises, faithfulLog, FaithfulFile}
 use Rattle.protocol.specs.declared.Vault.{Vault}
+use Rattle.protocol.specs.declared.Point.{Point}
 use Rattle.protocol.specs.declared.State.{State}
 use Rattle.protocol.specs.declared.Phase.the-variants as F
+use Rattle.protocol.specs.declared.Due.the-variants as D
 use Rattle.protocol.specs.declared.Store.{Store}
 use Rattle.protocol.specs.declared.Store.the-variants as S
 
@@ -80,9 +84,15 @@ module _ (key : List ℕ) where
   abbrev pub NoStoreLowers : Type 0
   NoStoreLowers = (es : List Event) → Listed es → (k : Call) → Honest key (after es) (call k) → NotLower (settled (after es) .vault) (next key (after es) (call k) .pending .store)
 
+  -- nine calls of Truncate at a covered point name R of lanes 0 to 7 from the point's counts, and then the deletion
+  abbrev pub TruncatesNine : Type 0
+  TruncatesNine = (es : List Event) → Listed es → (c : State) → after es .state ≡ some c → c .phase ≡ F.Serving → c .due ≡ D.Nothing → (position : ℕ) (p : Point)
+      → findPoint position (pointsOf (c .points)) ≡ some p → p .covered ≡ true → Names (λ d. truncate d position) c (truncateStores p) (Dropped c position)
+
   pub record Beside : Type 0 where
     pub log-is-short : LogIsShort
     pub no-store-lowers : NoStoreLowers
+    pub truncates-nine : TruncatesNine
 
 -- demand 3, for every key of 16 bytes
 abbrev pub Demand3 : Type 0

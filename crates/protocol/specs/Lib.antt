@@ -1,7 +1,8 @@
 -- The definitions of 01's operations, which contracts and theorems cite.
 -- Vaults: the 27 numbers. States: the state, and the rule for a handed one. Said: what a call answers, in 01's numbers.
--- Book, History, Claim: the book, the list with its premises, demand 3.
 -- Load, Accept (with Seal), Commit, Point, Checkpoint, Truncate, Replay (the log rules), Recover: the operations.
+-- Tally: the stores of the longer operations, in order. Book, LatestOf: the book and its table. History: the list, the card and the premises.
+-- Claim: demand 3. Sheet: the bench sheet.
 pub mod Vaults
 pub mod States
 pub mod Said
@@ -13,7 +14,9 @@ pub mod Checkpoint
 pub mod Truncate
 pub mod Replay
 pub mod Recover
+pub mod Tally
 pub mod Book
 pub mod LatestOf
 pub mod History
 pub mod Claim
+pub mod Sheet

@@ -1,0 +1,328 @@
+-- The stores that a recovery names are 01's 15 or 24, in that order, and those of a truncation its nine: each call names the store that is due
+-- and makes the next one due, and the handed state keeps to Load's rule all the way, so no call is turned down. The eight lanes are one lemma
+-- by recursion over the lanes that are left.
+-- Assumes nothing.
+use Prim.Native.Nat.{ℕ, zero, suc, _+_, _≤_, _<_}
+use mathlib.Core.Path.{_≡_, refl, sym, ap, ap₂, _∙_, subst}
+use mathlib.Core.Bool.{Bool, true, false, cond, _||_}
+use mathlib.Core.List.{List, [], _∷_, _++_}
+use mathlib.Core.Option.{Option, some, none}
+use native.Mathlib.Omega.{arith}
+use lib.Dec.{leb, ltb, eqb}
+use lib.ListN.{length}
+use borrow.Author.Tests.{ltb-false, leb-false, lt-leb, le-ltb, lt-ltb, eq-eqb, eqb-true, not-false}
+use Rattle.octets.specs.Lists.{at}
+use Rattle.octets.proofs.BoolLaws.{or-left, or-right}
+use Rattle.reading.proofs.EveryLaws.{and-true}
+use Rattle.table.specs.declared.Table.{Table}
+use Rattle.table.specs.Table.{lanes}
+use Rattle.table.proofs.OrderLaws.{clash}
+use Rattle.sealed.specs.Checkpoint.{fileLen, OpenedFile}
+use Rattle.protocol.specs.Vaults.{counterMax, setV, setR, setE, setS, setN}
+use Rattle.protocol.specs.States.{listed, pointsMax, valid, isNothing, withVault, withPoints}
+use Rattle.protocol.specs.Said.{Answered, taking, refuse}
+use Rattle.protocol.specs.Checkpoint.{tableFile}
+use Rattle.protocol.specs.Replay.{Read, stopped, reading}
+use Rattle.protocol.specs.Recover.{spent, recovered, recoverRead, recoverLog, recoverFile, recoverFrom, recoverFirst, afterVersion, allVisible, afterR, afterV, inService, recoverDue, recoverPhase, recover}
+use Rattle.protocol.specs.Truncate.{pointsOf, findPoint, droppedTo, afterTruncateR, truncateLane, truncateFirst, truncateNext, truncateDue, truncate}
+use Rattle.protocol.specs.History.{isTaken}
+use Rattle.protocol.specs.Tally.{fromLane, eachLane, storeR, storeV, lastStores, recoveryStores, truncateStores, answers, lastState, named, namedBy, Names, Serves, Dropped}
+use Rattle.protocol.specs.declared.Vault.{Vault}
+use Rattle.protocol.specs.declared.State.{State}
+use Rattle.protocol.specs.declared.Point.{Point}
+use Rattle.protocol.specs.declared.Phase.the-variants as F
+use Rattle.protocol.specs.declared.Due.{Due}
+use Rattle.protocol.specs.declared.Due.the-variants as D
+use Rattle.protocol.specs.declared.Store.{Store}
+use Rattle.protocol.specs.declared.Store.the-variants as S
+use Rattle.protocol.proofs.VaultLaws.{VaultFine, StateFine, state-fine, fine-state, fine-n, fine-s, fine-e, fine-r-w, fine-r-count, fine-v-w}
+
+-- ---- one call more
+
+module _ (op : State → Answered) (Q : State → Type 0) where
+  names-none : (c : State) → Q c → Names op c [] Q
+  unfolding answers lastState
+  names-none c q = record { each = refl; ends = q }
+
+  -- a taken call, and what goes on from the state that it returned
+  names-more : (c d : State) (st : Store) (out : List ℕ) (sts : List Store) → op c ≡ taking d st out → Names op d sts Q → Names op c (st ∷ sts) Q
+  unfolding answers lastState named
+  names-more c d st out sts e h = record {
+    each = ap₂ (λ (a b : Answered). named (a .said) ∷ namedBy (answers op (length sts) (b .state))) e e ∙ ap (λ (os : List (Option Store)). some st ∷ os) (h .each);
+    ends = subst (λ (a : Answered). Q (lastState op (length sts) (a .state))) (sym e) (h .ends);
+  }
+
+-- ---- recovery
+
+-- the call by which recovery is accepted
+record Accepted (c : State) (a : Answered) : Type 0 where
+  fine : valid c ≡ true
+  left : spent (c .vault) ≡ false
+  table : Table
+  is : a ≡ taking (recovered c table) (S.N (suc (c .vault .n))) []
+
+-- what was taken was not turned down
+through : (b : Bool) (c : State) (n : ℕ) (vs : List ℕ) (other : Answered) → (b ≡ false → isTaken (other .said) ≡ true → Accepted c other)
+    → isTaken (refuse b c n vs other .said) ≡ true → Accepted c (refuse b c n vs other)
+unfolding refuse isTaken
+through true c n vs other go h = clash (sym h)
+through false c n vs other go h = go refl h
+
+module _ (c : State) (fine : valid c ≡ true) (left : spent (c .vault) ≡ false) where
+  read-taken : (r : Read) → isTaken (recoverRead c r .said) ≡ true → Accepted c (recoverRead c r)
+  unfolding recoverRead isTaken
+  read-taken (stopped n vs) h = clash (sym h)
+  read-taken (reading g) h = record { fine = fine; left = left; table = g .table; is = refl }
+
+  log-taken : (log : List ℕ) (t : Table) → isTaken (recoverLog c log t .said) ≡ true → Accepted c (recoverLog c log t)
+  unfolding recoverLog
+  log-taken log t = read-taken _
+
+  file-taken : (log : List ℕ) (o : Option OpenedFile) → isTaken (recoverFile c log o .said) ≡ true → Accepted c (recoverFile c log o)
+  unfolding recoverFile isTaken
+  file-taken log none = λ h. clash (sym h)
+  file-taken log (some f) = through _ c 12 [] _ (λ e. log-taken log (f .table))
+
+  from-taken : (file log : List ℕ) → isTaken (recoverFrom c file log .said) ≡ true → Accepted c (recoverFrom c file log)
+  unfolding recoverFrom
+  from-taken file log = either (eqb (c .vault .s) 0) _ _ (through _ c 9 _ _ (λ e. log-taken log _)) (file-taken log _)
+    where
+      either : (b : Bool) (p q : Answered) → (isTaken (p .said) ≡ true → Accepted c p) → (isTaken (q .said) ≡ true → Accepted c q) → isTaken (cond b p q .said) ≡ true → Accepted c (cond b p q)
+      either true p q hp hq = hp
+      either false p q hp hq = hq
+
+first-taken : (c : State) (file log : List ℕ) → isTaken (recoverFirst c file log .said) ≡ true → Accepted c (recoverFirst c file log)
+unfolding recoverFirst
+first-taken c file log =
+    through _ c 1 [] _ (λ v. through _ c 3 _ _ (λ l. through _ c 8 [] _ (λ s. from-taken c (and-true (valid c) (isNothing (c .due)) (not-false _ v) .0) s file log)))
+
+-- the counters that recovery raises have room
+record Left (x : Vault) : Type 0 where
+  s : x .s + 2 ≤ counterMax
+  n : x .n + 2 ≤ counterMax
+  e : x .e < counterMax
+
+left-of : (x : Vault) → spent x ≡ false → Left x
+unfolding spent
+left-of x h =
+    let a = or-left (ltb counterMax (x .s + 2) || ltb counterMax (x .n + 2)) (leb counterMax (x .e)) h in
+    record {
+      s = ltb-false counterMax (x .s + 2) (or-left (ltb counterMax (x .s + 2)) _ a);
+      n = ltb-false counterMax (x .n + 2) (or-right (ltb counterMax (x .s + 2)) _ a);
+      e = leb-false counterMax (x .e) (or-right (ltb counterMax (x .s + 2) || ltb counterMax (x .n + 2)) _ h);
+    }
+
+module _ (b : State) (listing : b .journal .count ≤ listed) (pointing : b .points .count ≤ pointsMax) (file log : List ℕ) (room : ℕ) (long : fileLen ≤ room) where
+  -- a recovering collector: the numbers, and the store that is due
+  abbrev going : Vault → Due → State
+  going x d = record { vault = x; phase = F.Recovering; due = d; table = b .table; journal = b .journal; points = b .points; held = b .held; key = b .key }
+
+  abbrev op : State → Answered
+  op c = recover c file log room
+
+  going-valid : (x : Vault) (d : Due) → VaultFine x → valid (going x d) ≡ true
+  going-valid x d f = fine-state (going x d) (record { vault = f; listed = listing; pointed = pointing })
+
+  -- a call on it is decided by the store that is due
+  goes : (x : Vault) (d : Due) → VaultFine x → op (going x d) ≡ recoverDue (going x d) room d
+  unfolding recover recoverPhase refuse
+  goes x d f = rw (going-valid x d f)
+
+  go-file : (x : Vault) (second : Bool) → VaultFine x → x .s < counterMax
+      → op (going x (D.RecoverFile second)) ≡ taking (going x (D.RecoverVersion second)) S.File (tableFile (going x (D.RecoverFile second)))
+  unfolding recoverDue refuse
+  go-file x second f h = goes x (D.RecoverFile second) f ∙ rw (lt-leb counterMax (x .s) h, le-ltb room fileLen long)
+
+  go-version : (x : Vault) (second : Bool) → VaultFine x → x .s < counterMax
+      → op (going x (D.RecoverVersion second)) ≡ taking (going (setS x (suc (x .s))) (afterVersion second)) (S.S (suc (x .s))) []
+  unfolding recoverDue refuse
+  go-version x second f h = goes x (D.RecoverVersion second) f ∙ rw (lt-leb counterMax (x .s) h)
+
+  go-seal : (x : Vault) → VaultFine x → x .n < counterMax → op (going x D.RecoverSeal) ≡ taking (going (setN x (suc (x .n))) (D.RecoverFile true)) (S.N (suc (x .n))) []
+  unfolding recoverDue refuse
+  go-seal x f h = goes x D.RecoverSeal f ∙ rw (lt-leb counterMax (x .n) h)
+
+  go-r : (x : Vault) (l : ℕ) → VaultFine x → l < lanes → op (going x (D.RecoverR l)) ≡ taking (going (setR x l (at (x .w) l)) (afterR x l)) (storeR x l) []
+  unfolding recoverDue refuse
+  go-r x l f h = goes x (D.RecoverR l) f ∙ rw (lt-leb lanes l h)
+
+  go-epoch : (x : Vault) → VaultFine x → x .e < counterMax → op (going x D.RecoverEpoch) ≡ taking (going (setE x (suc (x .e))) (D.RecoverV 0)) (S.E (suc (x .e))) []
+  unfolding recoverDue refuse
+  go-epoch x f h = goes x D.RecoverEpoch f ∙ rw (lt-leb counterMax (x .e) h)
+
+  go-v : (x : Vault) (l : ℕ) → VaultFine x → l < lanes → op (going x (D.RecoverV l)) ≡ taking (going (setV x l (at (x .w) l)) (afterV l)) (storeV x l) []
+  unfolding recoverDue refuse
+  go-v x l f h = goes x (D.RecoverV l) f ∙ rw (lt-leb lanes l h)
+
+  go-empty : (x : Vault) → VaultFine x → op (going x D.RecoverEmpty) ≡ taking (inService (going x D.RecoverEmpty)) S.Empty []
+  unfolding recoverDue
+  go-empty x f = goes x D.RecoverEmpty f
+
+  -- ---- from the last store back
+
+  names-empty : (x : Vault) → VaultFine x → Names op (going x D.RecoverEmpty) (S.Empty ∷ []) Serves
+  unfolding inService
+  names-empty x f = names-more op Serves _ _ S.Empty [] [] (go-empty x f) (names-none op Serves _ (record { phase = refl; due = refl; journal = refl; points = refl }))
+
+  -- V = W for the lanes that are left
+  names-v : (n l : ℕ) (x : Vault) → l + suc n ≡ lanes → VaultFine x → Names op (going x (D.RecoverV l)) (fromLane (storeV x) l (suc n) ++ (S.Empty ∷ [])) Serves
+  unfolding fromLane afterV
+  names-v zero l x e f =
+      let y = setV x l (at (x .w) l) in
+      names-more op Serves _ (going y D.RecoverEmpty) (storeV x l) [] (S.Empty ∷ [])
+      (go-v x l f (omega arith) ∙ rw (le-ltb (suc l) lanes (omega arith)))
+      (names-empty y (fine-v-w x f l))
+  names-v (suc n) l x e f =
+      let y = setV x l (at (x .w) l) in
+      names-more op Serves _ (going y (D.RecoverV (suc l))) (storeV x l) [] (fromLane (storeV x) (suc l) (suc n) ++ (S.Empty ∷ []))
+      (go-v x l f (omega arith) ∙ rw (lt-ltb (suc l) lanes (omega arith)))
+      (names-v n (suc l) y (omega arith) (fine-v-w x f l))
+
+  -- E + 1 and V = W where any W ≠ V; the log is emptied
+  names-last : (x : Vault) → VaultFine x → x .e < counterMax → Names op (going x (cond (allVisible x) D.RecoverEmpty D.RecoverEpoch)) (lastStores x) Serves
+  unfolding lastStores
+  names-last x f h = by (allVisible x)
+    where
+      by : (b : Bool) → Names op (going x (cond b D.RecoverEmpty D.RecoverEpoch)) (cond b [] (S.E (suc (x .e)) ∷ eachLane (storeV x)) ++ (S.Empty ∷ [])) Serves
+      by true = names-empty x f
+      by false = names-more op Serves _ _ (S.E (suc (x .e))) [] _ (go-epoch x f h) (names-v 7 0 (setE x (suc (x .e))) refl (fine-e x f h))
+
+  -- R = W for the lanes that are left, and what follows
+  names-r : (n l : ℕ) (x : Vault) → l + suc n ≡ lanes → VaultFine x → x .e < counterMax → Names op (going x (D.RecoverR l)) (fromLane (storeR x) l (suc n) ++ lastStores x) Serves
+  unfolding fromLane afterR allVisible lastStores
+  names-r zero l x e f h =
+      let y = setR x l (at (x .w) l) in
+      names-more op Serves _ (going y (cond (allVisible y) D.RecoverEmpty D.RecoverEpoch)) (storeR x l) [] (lastStores x)
+      (go-r x l f (omega arith) ∙ rw (le-ltb (suc l) lanes (omega arith)))
+      (names-last y (fine-r-w x f l) h)
+  names-r (suc n) l x e f h =
+      let y = setR x l (at (x .w) l) in
+      names-more op Serves _ (going y (D.RecoverR (suc l))) (storeR x l) [] (fromLane (storeR x) (suc l) (suc n) ++ lastStores x)
+      (go-r x l f (omega arith) ∙ rw (lt-ltb (suc l) lanes (omega arith)))
+      (names-r n (suc l) y (omega arith) (fine-r-w x f l) h)
+
+  -- the file and S of a checkpoint, and what follows
+  names-pair : (x : Vault) (second : Bool) (sts : List Store) → VaultFine x → x .s < counterMax → Names op (going (setS x (suc (x .s))) (afterVersion second)) sts Serves
+      → Names op (going x (D.RecoverFile second)) (S.File ∷ S.S (suc (x .s)) ∷ sts) Serves
+  names-pair x second sts f h k =
+      names-more op Serves _ _ S.File _ _ (go-file x second f h) (names-more op Serves _ _ (S.S (suc (x .s))) [] sts (go-version x second f h) k)
+
+  -- all that follows the first N
+  names-rest : (x : Vault) → VaultFine x → x .s + 2 ≤ counterMax → x .n < counterMax → x .e < counterMax
+      → Names op (going x (D.RecoverFile false))
+      (S.File ∷ S.S (suc (x .s)) ∷ S.N (suc (x .n)) ∷ S.File ∷ S.S (suc (suc (x .s))) ∷ (eachLane (storeR x) ++ lastStores x)) Serves
+  unfolding afterVersion lastStores allVisible
+  names-rest x f hs hn he =
+      let y = setS x (suc (x .s)) in
+      let fy = fine-s x f (omega arith) in
+      let z = setN y (suc (x .n)) in
+      let fz = fine-n y fy hn in
+      names-pair x false _ f (omega arith)
+      (names-more op Serves _ _ (S.N (suc (x .n))) [] _ (go-seal y fy hn)
+      (names-pair z true _ fz (omega arith)
+      (names-r 7 0 (setS z (suc (suc (x .s)))) refl (fine-s z fz (omega arith)) he)))
+
+accepted-tally : (c : State) (file log : List ℕ) (room : ℕ) → fileLen ≤ room → StateFine c → Left (c .vault) → (t : Table)
+    → recover c file log room ≡ taking (recovered c t) (S.N (suc (c .vault .n))) [] → Names (λ d. recover d file log room) c (recoveryStores (c .vault)) Serves
+unfolding recoveryStores recovered lastStores allVisible
+accepted-tally c file log room long f l t e =
+    let x = c .vault in
+    let ls = l .s in
+    let ln = l .n in
+    names-more (λ d. recover d file log room) Serves c (recovered c t) (S.N (suc (x .n))) [] _ e
+    (names-rest (recovered c t) (f .listed) (f .pointed) file log room long (setN x (suc (x .n))) (fine-n x (f .vault) (omega arith)) ls (omega arith) (l .e))
+
+cold-first : (c : State) (file log : List ℕ) (room : ℕ) → c .phase ≡ F.Cold → recover c file log room ≡ recoverFirst c file log
+unfolding recover recoverPhase
+cold-first c file log room cold = rw cold
+
+-- "Then the stores .. That makes 15 or 24. Then it is in service": where the first call is taken and the room is a file's, as many calls as the
+-- list has stores are all taken and name them in that order
+pub recovery-tally : (c : State) (file log : List ℕ) (room : ℕ) → c .phase ≡ F.Cold → isTaken (recover c file log room .said) ≡ true → fileLen ≤ room
+    → Names (λ d. recover d file log room) c (recoveryStores (c .vault)) Serves
+recovery-tally c file log room cold h long =
+    let k = cold-first c file log room cold in
+    let a = first-taken c file log (rw k at h) in
+    accepted-tally c file log room long (state-fine c (a .fine)) (left-of (c .vault) (a .left)) (a .table) (k ∙ a .is)
+
+pub recovery-15-or-24 : (x : Vault) → length (recoveryStores x) ≡ cond (allVisible x) 15 24
+unfolding recoveryStores lastStores fromLane
+recovery-15-or-24 x = by (allVisible x) refl
+  where
+    by : (b : Bool) → allVisible x ≡ b → length (recoveryStores x) ≡ cond (allVisible x) 15 24
+    by true e = rw e
+    by false e = rw e
+
+-- ---- truncation
+
+-- the point that is found is at the position
+found-at : (position : ℕ) (ps : List Point) (p : Point) → findPoint position ps ≡ some p → p .position ≡ position
+unfolding findPoint
+found-at position [] p e = let z : _≡_ {A = ℕ} 0 1 = cc in absurd (omega arith)
+found-at position (q ∷ ps) p e = by (eqb (q .position) position) refl (found-at position ps p) e
+  where
+    by : (b : Bool) → eqb (q .position) position ≡ b → (findPoint position ps ≡ some p → p .position ≡ position) → cond b (some q) (findPoint position ps) ≡ some p → p .position ≡ position
+    by true h later e = let k = eqb-true (q .position) position h in cc
+    by false h later e = later e
+
+module _ (c : State) (position : ℕ) (p : Point) (found : findPoint position (pointsOf (c .points)) ≡ some p) (serves : c .phase ≡ F.Serving)
+    (listing : c .journal .count ≤ listed) (pointing : c .points .count ≤ pointsMax) where
+  abbrev cut : State → Answered
+  cut d = truncate d position
+
+  abbrev storeCount : ℕ → Store
+  storeCount l = S.R l (at (p .counts) l)
+
+  -- a call is decided by the store that is due
+  cuts : (x : Vault) (d : Due) → VaultFine x → cut (withVault c x d) ≡ truncateDue (withVault c x d) position d
+  unfolding truncate refuse
+  cuts x d f = rw (fine-state (withVault c x d) (record { vault = f; listed = listing; pointed = pointing }), serves)
+
+  cut-r : (x : Vault) (l : ℕ) → VaultFine x → l < lanes
+      → cut (withVault c x (D.TruncateR l position)) ≡ taking (withVault c (setR x l (at (p .counts) l)) (afterTruncateR l position)) (storeCount l) []
+  unfolding truncateDue truncateNext truncateLane refuse
+  cut-r x l f h = cuts x (D.TruncateR l position) f ∙ rw (eq-eqb position position refl, found, lt-leb lanes l h)
+
+  cut-first : (x : Vault) → VaultFine x → p .covered ≡ true
+      → cut (withVault c x D.Nothing) ≡ taking (withVault c (setR x 0 (at (p .counts) 0)) (D.TruncateR 1 position)) (storeCount 0) []
+  unfolding truncateDue truncateFirst truncateLane afterTruncateR refuse
+  cut-first x f h = cuts x D.Nothing f ∙ rw (found, h)
+
+  names-delete : (x : Vault) → VaultFine x → Names cut (withVault c x (D.TruncateDelete position)) (S.Delete (p .position) ∷ []) (Dropped c position)
+  unfolding truncateDue refuse
+  names-delete x f = rw (found-at position (pointsOf (c .points)) p found)
+      (names-more cut (Dropped c position) _ (withPoints (withVault c x D.Nothing) (droppedTo (c .points) position) D.Nothing) (S.Delete position) [] [] (cuts x (D.TruncateDelete position) f ∙ rw (eq-eqb position position refl))
+      (names-none cut (Dropped c position) _ (record { due = refl; points = refl })))
+
+  -- R of the lanes that are left, and the deletion
+  names-counts : (n l : ℕ) (x : Vault) → l + suc n ≡ lanes → VaultFine x → ((i : ℕ) → i < lanes → at (p .counts) i ≤ at (x .v) i)
+      → Names cut (withVault c x (D.TruncateR l position)) (fromLane storeCount l (suc n) ++ (S.Delete (p .position) ∷ [])) (Dropped c position)
+  unfolding fromLane afterTruncateR
+  names-counts zero l x e f h =
+      let y = setR x l (at (p .counts) l) in
+      names-more cut (Dropped c position) _ (withVault c y (D.TruncateDelete position)) (storeCount l) [] (S.Delete (p .position) ∷ [])
+      (cut-r x l f (omega arith) ∙ rw (le-ltb (suc l) lanes (omega arith)))
+      (names-delete y (fine-r-count x f l (at (p .counts) l) (h l (omega arith))))
+  names-counts (suc n) l x e f h =
+      let y = setR x l (at (p .counts) l) in
+      names-more cut (Dropped c position) _ (withVault c y (D.TruncateR (suc l) position)) (storeCount l) [] (fromLane storeCount (suc l) (suc n) ++ (S.Delete (p .position) ∷ []))
+      (cut-r x l f (omega arith) ∙ rw (lt-ltb (suc l) lanes (omega arith)))
+      (names-counts n (suc l) y (omega arith) (fine-r-count x f l (at (p .counts) l) (h l (omega arith))) h)
+
+-- "stores R of lanes 0 to 7 from the point's counts, then deletion of records below it. That point and older ones are dropped": nine calls at a
+-- covered point whose numbers are all visible
+pub truncate-tally : (c : State) (position : ℕ) (p : Point) → valid c ≡ true → c .phase ≡ F.Serving → c .due ≡ D.Nothing
+    → findPoint position (pointsOf (c .points)) ≡ some p → p .covered ≡ true → ((l : ℕ) → l < lanes → at (p .counts) l ≤ at (c .vault .v) l)
+    → Names (λ d. truncate d position) c (truncateStores p) (Dropped c position)
+unfolding truncateStores fromLane
+truncate-tally c position p ok serves idle found covered below =
+    let f = state-fine c ok in
+    let e : withVault c (c .vault) D.Nothing ≡ c = ap (λ (d : Due). withVault c (c .vault) d) (sym idle) in
+    let x = setR (c .vault) 0 (at (p .counts) 0) in
+    names-more (λ d. truncate d position) (Dropped c position) c (withVault c x (D.TruncateR 1 position)) (S.R 0 (at (p .counts) 0)) [] _
+    (ap (λ (d : State). truncate d position) (sym e) ∙ cut-first c position p found serves (f .listed) (f .pointed) (c .vault) (f .vault) covered)
+    (names-counts c position p found serves (f .listed) (f .pointed) 6 1 x refl (fine-r-count (c .vault) (f .vault) 0 (at (p .counts) 0) (below 0 (omega arith))) below)
+
+pub truncate-9 : (p : Point) → length (truncateStores p) ≡ 9
+unfolding truncateStores fromLane
+truncate-9 p = refl

@@ -1,0 +1,94 @@
+-- The stores of the operations that take several calls, in order, and the calls that name them.
+-- 01, Operations, Recover: "Then the stores: N, checkpoint S + 1, S; the same three again; R = W for lanes 0 to 7; if any W ≠ V, also E + 1 and
+-- V = W for lanes 0 to 7; empty the log. That makes 15 or 24. Then it is in service with no point and no position used."
+-- Truncate: "stores R of lanes 0 to 7 from the point's counts, then deletion of records below it."
+-- The theorems are in proofs/TallyLaws.antt.
+-- Assumes nothing.
+use Prim.Native.Nat.{ℕ, zero, suc}
+use mathlib.Core.Path.{_≡_}
+use mathlib.Core.Bool.{cond}
+use mathlib.Core.List.{List, [], _∷_, _++_, map}
+use mathlib.Core.Option.{Option, some, none}
+use lib.ListN.{length}
+use Rattle.octets.specs.Lists.{at}
+use Rattle.table.specs.Table.{lanes}
+use Rattle.protocol.specs.States.{noJournal, noPoints}
+use Rattle.protocol.specs.Said.{Said, refused, taken, Answered}
+use Rattle.protocol.specs.Truncate.{droppedTo}
+use Rattle.protocol.specs.Recover.{allVisible}
+use Rattle.protocol.specs.declared.Vault.{Vault}
+use Rattle.protocol.specs.declared.Point.{Point}
+use Rattle.protocol.specs.declared.State.{State}
+use Rattle.protocol.specs.declared.Phase.the-variants as F
+use Rattle.protocol.specs.declared.Due.the-variants as D
+use Rattle.protocol.specs.declared.Store.{Store}
+use Rattle.protocol.specs.declared.Store.the-variants as S
+
+-- ---- the stores
+
+-- a store for each of n lanes, from a lane on
+unfoldable pub fromLane : (ℕ → Store) → ℕ → ℕ → List Store
+fromLane store lane zero = []
+fromLane store lane (suc n) = store lane ∷ fromLane store (suc lane) n
+
+-- for lanes 0 to 7
+abbrev pub eachLane : (ℕ → Store) → List Store
+eachLane store = fromLane store 0 lanes
+
+abbrev pub storeR : Vault → ℕ → Store
+storeR x lane = S.R lane (at (x .w) lane)
+
+abbrev pub storeV : Vault → ℕ → Store
+storeV x lane = S.V lane (at (x .w) lane)
+
+-- "if any W ≠ V, also E + 1 and V = W for lanes 0 to 7; empty the log"
+unfoldable pub lastStores : Vault → List Store
+lastStores x = cond (allVisible x) [] (S.E (suc (x .e)) ∷ eachLane (storeV x)) ++ (S.Empty ∷ [])
+
+-- the stores of a recovery, where x are the vault's numbers before it
+unfoldable pub recoveryStores : Vault → List Store
+recoveryStores x =
+    S.N (suc (x .n)) ∷ S.File ∷ S.S (suc (x .s))
+    ∷ S.N (suc (suc (x .n))) ∷ S.File ∷ S.S (suc (suc (x .s)))
+    ∷ (eachLane (storeR x) ++ lastStores x)
+
+-- the stores of a truncation at a point
+unfoldable pub truncateStores : Point → List Store
+truncateStores p = eachLane (λ lane. S.R lane (at (p .counts) lane)) ++ (S.Delete (p .position) ∷ [])
+
+-- ---- the calls
+
+-- the answers to so many calls of an operation, each handed the state last returned
+unfoldable pub answers : (State → Answered) → ℕ → State → List Answered
+answers op zero c = []
+answers op (suc n) c = op c ∷ answers op n (op c .state)
+
+-- the state that the last of them returned
+unfoldable pub lastState : (State → Answered) → ℕ → State → State
+lastState op zero c = c
+lastState op (suc n) c = lastState op n (op c .state)
+
+-- the store that a taken call names; a refused one names none
+unfoldable pub named : Said → Option Store
+named (refused n vs) = none
+named (taken st n) = some st
+
+abbrev pub namedBy : List Answered → List (Option Store)
+namedBy said = map (λ (a : Answered). named (a .said)) said
+
+-- as many calls as there are stores: every one is taken and names the next store, and the state returned last is as Q says
+pub record Names (op : State → Answered) (c : State) (stores : List Store) (Q : State → Type 0) : Type 0 where
+  pub each : namedBy (answers op (length stores) c) ≡ map some stores
+  pub ends : Q (lastState op (length stores) c)
+
+-- "Then it is in service with no point and no position used."
+pub record Serves (c : State) : Type 0 where
+  pub phase : c .phase ≡ F.Serving
+  pub due : c .due ≡ D.Nothing
+  pub journal : c .journal ≡ noJournal
+  pub points : c .points ≡ noPoints
+
+-- "That point and older ones are dropped": c is the state before, d the one behind the deletion
+pub record Dropped (c : State) (position : ℕ) (d : State) : Type 0 where
+  pub due : d .due ≡ D.Nothing
+  pub points : d .points ≡ droppedTo (c .points) position
