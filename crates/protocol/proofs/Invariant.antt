@@ -184,8 +184,23 @@ pub record Caught (s : ℕ) (book : List Opened) (files : List OpenedFile) : Typ
   pub full : (f : OpenedFile) → FileIn files f → f .version ≡ s → Full book (f .table)
   pub some-s : 0 < s
 
-abbrev pub Even : List ℕ → List ℕ → Type 0
-Even a b = (l : ℕ) → at a l ≡ at b l
+-- S, N and E may still rise by so much
+pub record Ahead (x : Vault) (s n e : ℕ) : Type 0 where
+  pub s-room : x .s + s ≤ counterMax
+  pub n-room : x .n + n ≤ counterMax
+  pub e-room : x .e + e ≤ counterMax
+
+-- the checkpoints that are still to be written
+abbrev pub checkpointsLeft : Bool → ℕ
+checkpointsLeft false = 2
+checkpointsLeft true = 1
+
+-- both checkpoints are done; R is W in the lanes below rl, V is W in those below vl, and E may still rise by el
+pub record Raising (x : Vault) (d : Durable) (rl vl el : ℕ) : Type 0 where
+  pub caught : Caught (x .s) (d .book) (d .files)
+  pub r-is-w : (k : ℕ) → k < rl → at (x .r) k ≡ at (x .w) k
+  pub v-is-w : (k : ℕ) → k < vl → at (x .v) k ≡ at (x .w) k
+  pub e-room : x .e + el ≤ counterMax
 
 -- by the store that is due
 abbrev pub RecoverDue : Vault → Durable → Due → Type 0
@@ -195,15 +210,13 @@ RecoverDue x d D.File = ⊥
 RecoverDue x d D.Version = ⊥
 RecoverDue x d (D.TruncateR l p) = ⊥
 RecoverDue x d (D.TruncateDelete p) = ⊥
-RecoverDue x d (D.RecoverFile false) = (x .s + 2 ≤ counterMax) × (x .n + 1 ≤ counterMax) × (x .e + 1 ≤ counterMax)
-RecoverDue x d (D.RecoverFile true) = (x .s + 1 ≤ counterMax) × (x .e + 1 ≤ counterMax)
-RecoverDue x d (D.RecoverVersion false) = (x .s + 2 ≤ counterMax) × (x .n + 1 ≤ counterMax) × (x .e + 1 ≤ counterMax) × HasNext (x .s) (d .cards)
-RecoverDue x d (D.RecoverVersion true) = (x .s + 1 ≤ counterMax) × (x .e + 1 ≤ counterMax) × HasNext (x .s) (d .cards)
-RecoverDue x d D.RecoverSeal = (x .s + 1 ≤ counterMax) × (x .n + 1 ≤ counterMax) × (x .e + 1 ≤ counterMax)
-RecoverDue x d (D.RecoverR l) = (x .e + 1 ≤ counterMax) × Caught (x .s) (d .book) (d .files) × (l < lanes) × ((k : ℕ) → k < l → at (x .r) k ≡ at (x .w) k)
-RecoverDue x d D.RecoverEpoch = (x .e + 1 ≤ counterMax) × Caught (x .s) (d .book) (d .files) × Even (x .r) (x .w)
-RecoverDue x d (D.RecoverV l) = Caught (x .s) (d .book) (d .files) × Even (x .r) (x .w) × (l < lanes) × ((k : ℕ) → k < l → at (x .v) k ≡ at (x .w) k)
-RecoverDue x d D.RecoverEmpty = Caught (x .s) (d .book) (d .files) × Even (x .r) (x .w) × Even (x .v) (x .w)
+RecoverDue x d (D.RecoverFile second) = Ahead x (checkpointsLeft second) (pred (checkpointsLeft second)) 1
+RecoverDue x d (D.RecoverVersion second) = Ahead x (checkpointsLeft second) (pred (checkpointsLeft second)) 1 × HasNext (x .s) (d .cards)
+RecoverDue x d D.RecoverSeal = Ahead x 1 1 1
+RecoverDue x d (D.RecoverR l) = (l < lanes) × Raising x d l 0 1
+RecoverDue x d D.RecoverEpoch = Raising x d lanes 0 1
+RecoverDue x d (D.RecoverV l) = (l < lanes) × Raising x d lanes l 0
+RecoverDue x d D.RecoverEmpty = Raising x d lanes lanes 0
 
 -- ---- (10): in service
 

@@ -21,7 +21,7 @@ use Rattle.sealed.specs.Checkpoint.{OpenedFile}
 use Rattle.protocol.specs.Vaults.{counterMax}
 use Rattle.protocol.specs.States.{listed, valid, serving, heldText, withVault}
 use Rattle.protocol.specs.Accept.{tooLow, listedMore, holding, accepted, accept, isRecord, heldRecord, holds, seal}
-use Rattle.protocol.specs.Commit.{committed, commitOpened, commit}
+use Rattle.protocol.specs.Commit.{committed, outOfTurn, commitOpened, commit}
 use Rattle.protocol.specs.Point.{Mark, marksOf}
 use Rattle.protocol.specs.Truncate.{pointsOf}
 use Rattle.protocol.specs.declared.Point.{Point}
@@ -234,6 +234,13 @@ module _ (key : List ℕ) where
         link = link-quiet key c (committed c y) _ e du refl refl refl (record { key-is = s .key-is; arrays = s .arrays; table = full-add y (i .sealed .fine y m) (s .table); common = sv′; stored = s .stored });
       }
 
+  in-turn : (c : State) (r : Opened) → outOfTurn c r ≡ false → (r .number ≡ suc (at (c .vault .v) (r .lane))) × (r .number ≤ at (c .vault .w) (r .lane))
+  unfolding outOfTurn
+  in-turn c r q =
+      let u = not (eqb (r .number) (suc (at (c .vault .v) (r .lane)))) in
+      let x = ltb (at (c .vault .w) (r .lane)) (r .number) in
+      (eqb-true _ _ (not-false _ (or-left u x q)), ltb-false _ _ (or-right u x q))
+
   keep-opened : (c : State) (d : Durable) (o : Option Opened) → Durably (At c d) → c .phase ≡ F.Serving → c .due ≡ D.Nothing → Service key c (At c d) D.Nothing
       → ((y : Opened) → o ≡ some y → In (d .sealed) y) → GoodAnswer key (At c d) o (commitOpened c o)
   unfolding commitOpened
@@ -242,9 +249,9 @@ module _ (key : List ℕ) where
       good-refuse key _ (some y) _ c 10 _ _ (λ p.
       good-refuse key _ (some y) _ c 11 _ _ (λ q.
       let m = h y refl in
-      let u = not (eqb (y .number) (suc (at (c .vault .v) (y .lane)))) in
-      let x = ltb (at (c .vault .w) (y .lane)) (y .number) in
-      (quiet, commit-good c d y i e du s m (i .sealed .fine y m .lane) (eqb-true (y .epoch) (c .vault .e) (not-false _ p)) (eqb-true (y .number) (suc (at (c .vault .v) (y .lane))) (not-false _ (or-left u x q))) (ltb-false (at (c .vault .w) (y .lane)) (y .number) (or-right u x q)))))
+      let now : y .epoch ≡ c .vault .e = eqb-true _ _ (not-false _ p) in
+      let turn = in-turn c y q in
+      (quiet, commit-good c d y i e du s m (i .sealed .fine y m .lane) now (turn .0) (turn .1))))
 
   pub keep-commit : (c : State) (d : Durable) (b : List ℕ) → Durably (At c d) → LinkedAt key c (At c d) (c .phase) (c .due) → ((y : Opened) → openRecord (aesGcm key) b ≡ some y → Known key (d .sealed) (d .files) b)
       → GoodAnswer key (At c d) (openRecord (aesGcm key) b) (commit c b)

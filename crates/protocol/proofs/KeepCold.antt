@@ -20,7 +20,7 @@ use Rattle.protocol.specs.Vaults.{counterMax, vaultOk}
 use Rattle.protocol.specs.Said.{refuse, taking}
 use Rattle.protocol.specs.Load.{keyLen, loaded, blank, load}
 use Rattle.protocol.specs.Replay.{Read, stopped, reading, replay}
-use Rattle.protocol.specs.Recover.{spent, recovered, recoverRead, recoverLog, recoverFile, recoverFrom, recoverFirst, recoverPhase}
+use Rattle.protocol.specs.Recover.{spent, otherVersion, recovered, recoverRead, recoverLog, recoverFile, recoverFrom, recoverFirst, recoverPhase}
 use Rattle.protocol.specs.History.{isTaken}
 use Rattle.protocol.specs.declared.Vault.{Vault}
 use Rattle.protocol.specs.declared.State.{State}
@@ -36,6 +36,11 @@ use Rattle.protocol.proofs.KeepRecover.{good-refuse}
 pub not-false : (b : Bool) → not b ≡ false → b ≡ true
 not-false true e = refl
 not-false false e = let z : _≡_ {A = ℕ} 0 1 = cc in absurd (omega arith)
+
+-- a checkpoint that is not turned down is of version S
+pub asked : (c : State) (f : OpenedFile) → otherVersion c f ≡ false → f .version ≡ c .vault .s
+unfolding otherVersion
+asked c f v = eqb-true (f .version) (c .vault .s) (not-false _ v)
 
 module _ (key : List ℕ) where
   pub keep-load : (d : Durable) (x : Vault) (k : List ℕ) → Durably d → (isTaken (load x k .said) ≡ true → (x ≡ d .vault) × (k ≡ key)) → GoodAnswer key d none (load x k)
@@ -91,7 +96,7 @@ module _ (key : List ℕ) where
           rises = omega arith;
           now = i;
           then = record { lanes = i .lanes; nums = record { e≤ = i .nums .e≤; s≤ = i .nums .s≤; n≤ = omega arith }; sealed = i .sealed; book = i .book; files = i .files; card = i .card; kept = i .kept };
-          link = record { same = refl; rest = record { key-is = kk; table = f; stored = (s2, omega arith, omega arith) } };
+          link = record { same = refl; rest = record { key-is = kk; table = f; stored = record { s-room = omega arith; n-room = omega arith; e-room = omega arith } } };
         },
       )
 
@@ -104,7 +109,7 @@ module _ (key : List ℕ) where
   unfolding recoverFile
   keep-file c d log none kk i h hf sp = tt
   keep-file c d log (some f) kk i h hf sp = good-refuse key _ none _ c 12 [] _ (λ v.
-      keep-log c d log (f .table) kk i h (i .files .held f (hf f refl) (eqb-true (f .version) (c .vault .s) (not-false _ v))) sp)
+      keep-log c d log (f .table) kk i h (i .files .held f (hf f refl) (asked c f v)) sp)
 
   keep-from : (c : State) (d : Durable) (file log : List ℕ) → c .key ≡ key → Durably (At c d) → TrustedLog d log → TrustedFile d file → spent (c .vault) ≡ false → GoodAnswer key (At c d) none (recoverFrom c file log)
   unfolding recoverFrom

@@ -12,12 +12,12 @@ use lib.Dec.{leb, ltb}
 use lib.ListN.{length, length-set, length-append, length-map, List·getD-eq-default}
 use lib.Seq.{take-suc-set, length-take-le}
 use borrow.Author.Tests.{ltb-false, leb-false, lt-ltb}
-use Rattle.octets.specs.Lists.{at}
+use Rattle.octets.specs.Lists.{at, tab}
 use Rattle.octets.proofs.BoolLaws.{or-left, or-right}
 use Rattle.table.specs.Table.{lanes}
 use Rattle.table.proofs.OrderLaws.{clash}
 use Rattle.protocol.specs.States.{listed, pointsMax}
-use Rattle.protocol.specs.Point.{Mark, marksOf, marksFrom, laneCount, unseenBelow, journalOf, countsAt, pointsMore, pointed, point}
+use Rattle.protocol.specs.Point.{Mark, marksOf, marksFrom, laneCount, unseenBelow, journalOf, countsAt, pointAt, pointsMore, pointed, point}
 use Rattle.protocol.specs.Truncate.{pointsOf}
 use Rattle.protocol.specs.declared.Point.{Point}
 use Rattle.protocol.specs.declared.State.{State}
@@ -80,10 +80,22 @@ next-journal : (ms : List Mark) (u : Bool) (k : ℕ) → nextOf (journalOf ms u 
 unfolding journalOf
 next-journal ms u k = refl
 
+-- a point counts the numbers handed out less those of the records at or above it
+counts-in : (c : State) (pos l : ℕ) → l < lanes → at (pointAt c pos .counts) l ≡ at (c .vault .w) l - laneCount l (marksFrom pos (marksOf (c .journal)))
+unfolding pointAt countsAt
+counts-in c pos l h = at-tab lanes (λ k. at (c .vault .w) k - laneCount k (marksFrom pos (marksOf (c .journal)))) l h
+
+counts-out : (c : State) (pos l : ℕ) → lanes ≤ l → at (pointAt c pos .counts) l ≡ 0
+unfolding pointAt countsAt
+counts-out c pos l h =
+    let f : ℕ → ℕ = λ k. at (c .vault .w) k - laneCount k (marksFrom pos (marksOf (c .journal))) in
+    let k = length-tab lanes f in
+    List·getD-eq-default (tab lanes f) 0 (let z : length (tab lanes f) ≤ l = omega arith in z)
+
 module _ (key : List ℕ) where
   point-good : (c : State) (d : Durable) (pos : ℕ) → Durably (At c d) → c .phase ≡ F.Serving → c .due ≡ D.Nothing → Service key c (At c d) D.Nothing → floorOf (c .points) ≤ pos → c .points .count < pointsMax
       → unseenBelow pos (c .vault .w) (c .vault .v) (marksOf (c .journal)) ≡ false → Good key (pointed c pos) S.Nothing [] none (At c d) quiet
-  unfolding pointed pointsMore countsAt pointsOf
+  unfolding pointed pointsMore pointAt pointsOf
   point-good c d pos i e du s fl ei un =
       let sv = s .common in
       let cs = d .spots in
@@ -100,9 +112,8 @@ module _ (key : List ℕ) where
       let sn = all-seen pos w (c .vault .v) lo lc (subst (λ (m : List Mark). unseenBelow pos w (c .vault .v) m ≡ false) (sv .marked) un) in
       let ba : (l : ℕ) → at w l ≤ at (c .vault .v) l + cnt l (spotsFrom pos cs) = λ l. subst (λ (x : List Spot). at w l ≤ at (c .vault .v) l + cnt l x) ff
       (base-from (at w) (at (c .vault .v)) pos lo l (rising-from (pred (floorOf (c .points))) cs (sv .rising)) lc sn (sv .base l)) in
-      let ct : List ℕ = countsAt w (marksFrom pos (marksOf (c .journal))) in
-      let ex : (l : ℕ) → at ct l + cnt l (spotsFrom pos cs) ≡ at w l = λ l. count l (decLt l lanes) (ap (laneCount l) ms ∙ count-map l (spotsFrom pos cs)) in
-      let p : Point = record { position = pos; counts = ct; covered = false } in
+      let ex : (l : ℕ) → at (pointAt c pos .counts) l + cnt l (spotsFrom pos cs) ≡ at w l = λ l. count l (decLt l lanes) (ap (laneCount l) ms ∙ count-map l (spotsFrom pos cs)) in
+      let p : Point = pointAt c pos in
       let pe : spotsFrom (pred (suc pos)) cs ≡ spotsFrom pos cs = ap (λ (k : ℕ). spotsFrom k cs) pp in
       let ar = s .arrays in
       let ps = pointsOf (c .points) in
@@ -140,20 +151,19 @@ module _ (key : List ℕ) where
         });
       }
     where
-      count : (l : ℕ) → Dec (l < lanes) → laneCount l (marksFrom pos (marksOf (c .journal))) ≡ cnt l (spotsFrom pos (d .spots)) → at (countsAt (c .vault .w) (marksFrom pos (marksOf (c .journal)))) l + cnt l (spotsFrom pos (d .spots)) ≡ at (c .vault .w) l
+      count : (l : ℕ) → Dec (l < lanes) → laneCount l (marksFrom pos (marksOf (c .journal))) ≡ cnt l (spotsFrom pos (d .spots)) → at (pointAt c pos .counts) l + cnt l (spotsFrom pos (d .spots)) ≡ at (c .vault .w) l
       count l (yes h) q =
-          let b : at (countsAt (c .vault .w) (marksFrom pos (marksOf (c .journal)))) l ≡ at (c .vault .w) l - laneCount l (marksFrom pos (marksOf (c .journal))) = at-tab lanes (λ k. at (c .vault .w) k - laneCount k (marksFrom pos (marksOf (c .journal)))) l h in
+          let b = counts-in c pos l h in
           let x = s .stored .1 l in
           let y = cnt-from l pos (d .spots) in omega arith
       count l (no h) q =
-          let k = length-tab lanes (λ (j : ℕ). at (c .vault .w) j - laneCount j (marksFrom pos (marksOf (c .journal)))) in
-          let a : at (countsAt (c .vault .w) (marksFrom pos (marksOf (c .journal)))) l ≡ 0 = List·getD-eq-default (countsAt (c .vault .w) (marksFrom pos (marksOf (c .journal)))) 0 (let z : length (countsAt (c .vault .w) (marksFrom pos (marksOf (c .journal)))) ≤ l = omega arith in z) in
+          let a = counts-out c pos l (omega arith) in
           let b : at (c .vault .w) l ≡ 0 = List·getD-eq-default (c .vault .w) 0 (let z : length (c .vault .w) ≤ l = omega (arith, i .lanes .wlen) in z) in
           let x = s .stored .1 l in
           let y = cnt-from l pos (d .spots) in omega arith
 
-      which : (q : Point) → PointOk (c .vault .w) (c .vault .v) (c .vault .s) (suc pos) (d .book) (d .files) (d .spots) (record { position = pos; counts = countsAt (c .vault .w) (marksFrom pos (marksOf (c .journal))); covered = false })
-          → List·Memᴰ q (pointsOf (c .points)) ⊎ List·Memᴰ q (record { position = pos; counts = countsAt (c .vault .w) (marksFrom pos (marksOf (c .journal))); covered = false } ∷ []) → PointOk (c .vault .w) (c .vault .v) (c .vault .s) (suc pos) (d .book) (d .files) (d .spots) q
+      which : (q : Point) → PointOk (c .vault .w) (c .vault .v) (c .vault .s) (suc pos) (d .book) (d .files) (d .spots) (pointAt c pos)
+          → List·Memᴰ q (pointsOf (c .points)) ⊎ List·Memᴰ q (pointAt c pos ∷ []) → PointOk (c .vault .w) (c .vault .v) (c .vault .s) (suc pos) (d .book) (d .files) (d .spots) q
       which q new (inl m) = let o = s .common .pointed q m in record { exact = o .exact; visible = o .visible; covers = o .covers; under = let a = o .under in omega arith }
       which q new (inr m) = rw (List·Memᴰ·eq-of-singleton m) new
 

@@ -35,7 +35,7 @@ use Rattle.protocol.proofs.Basis.{fileOf}
 use Rattle.protocol.proofs.Lanes.{Put, same, other, put}
 use Rattle.protocol.proofs.Latest.{Full, full-upto}
 use Rattle.protocol.proofs.Card.{Spot, from-nil, cnt}
-use Rattle.protocol.proofs.Invariant.{Durable, vaultTo, quiet, outFile, known, filed, Durably, HasNext, Caught, Even, RecoverDue, Recovering, LinkedAt, Linked, GoodAnswer, At, markOf}
+use Rattle.protocol.proofs.Invariant.{Durable, vaultTo, quiet, outFile, known, filed, Durably, HasNext, checkpointsLeft, Raising, RecoverDue, Recovering, LinkedAt, Linked, GoodAnswer, At, markOf}
 use Rattle.protocol.proofs.StoreLaws.{up-set, lanes-v, lanes-r, book-r, book-free, files-s, settled-s, files-r, files-add, card-r, card-free, card-empty, kept-add, kept-known, kept-s}
 
 module _ (key : List ℕ) where
@@ -49,7 +49,7 @@ module _ (key : List ℕ) where
   link-rec c d x du k e s t r = record { same = s; rest = subst (λ (ph : Phase). LinkedAt key (withVault c x du) d ph du) (sym e) (record { key-is = k; table = t; stored = r }) }
 
   -- lanes of which all eight are alike
-  even-all : (a b : List ℕ) → length a ≡ lanes → length b ≡ lanes → ((k : ℕ) → k < lanes → at a k ≡ at b k) → Even a b
+  even-all : (a b : List ℕ) → length a ≡ lanes → length b ≡ lanes → ((k : ℕ) → k < lanes → at a k ≡ at b k) → (k : ℕ) → at a k ≡ at b k
   even-all a b la lb f k = go (decLt k lanes)
     where
       go : Dec (k < lanes) → at a k ≡ at b k
@@ -63,32 +63,6 @@ module _ (key : List ℕ) where
       go : Put a l (at b l) k → at (set a l (at b l)) k ≡ at b k
       go (same e q) = q ∙ ap (at b) (sym e)
       go (other n q) = q ∙ f k (omega arith)
-
-  due-r : (x : Vault) (d : Durable) (l : ℕ) (b q : Bool) → length (x .r) ≡ lanes → length (x .w) ≡ lanes → length (x .v) ≡ lanes → x .e + 1 ≤ counterMax → Caught (x .s) (d .book) (d .files) → l < lanes
-      → ((k : ℕ) → k < suc l → at (x .r) k ≡ at (x .w) k) → ltb (suc l) lanes ≡ b → allBelow (λ i. eqb (at (x .w) i) (at (x .v) i)) lanes ≡ q
-      → RecoverDue x d (cond b (D.RecoverR (suc l)) (cond q D.RecoverEmpty D.RecoverEpoch))
-  due-r x d l true q rl wl vl e s h f eb eq = let z = ltb-true (suc l) lanes eb in (e, s, omega arith, f)
-  due-r x d l false true rl wl vl e s h f eb eq = let z = ltb-false (suc l) lanes eb in
-      (s, even-all (x .r) (x .w) rl wl (λ k lt. f k (omega arith)), even-all (x .v) (x .w) vl wl (λ k lt. sym (eqb-true (at (x .w) k) (at (x .v) k) (all-at _ lanes eq k lt))))
-  due-r x d l false false rl wl vl e s h f eb eq = let z = ltb-false (suc l) lanes eb in (e, s, even-all (x .r) (x .w) rl wl (λ k lt. f k (omega arith)))
-
-  due-v : (x : Vault) (d : Durable) (l : ℕ) (b : Bool) → length (x .w) ≡ lanes → length (x .v) ≡ lanes → Caught (x .s) (d .book) (d .files) → Even (x .r) (x .w) → l < lanes
-      → ((k : ℕ) → k < suc l → at (x .v) k ≡ at (x .w) k) → ltb (suc l) lanes ≡ b → RecoverDue x d (cond b (D.RecoverV (suc l)) D.RecoverEmpty)
-  due-v x d l true wl vl s r h f eb = let z = ltb-true (suc l) lanes eb in (s, r, omega arith, f)
-  due-v x d l false wl vl s r h f eb = let z = ltb-false (suc l) lanes eb in (s, r, even-all (x .v) (x .w) vl wl (λ k lt. f k (omega arith)))
-
-  keep-N : (c : State) (d : Durable) → Durably (At c d) → c .phase ≡ F.Recovering → Recovering key c (At c d) D.RecoverSeal → (room : ℕ) → GoodAnswer key (At c d) none (recoverDue c room D.RecoverSeal)
-  unfolding recoverDue
-  keep-N c d i e r room = good-refuse _ none _ c 1 [] _ (λ _. (
-    quiet,
-    record {
-      puts = tt;
-      rises = omega arith;
-      now = i;
-      then = record { lanes = i .lanes; nums = record { e≤ = i .nums .e≤; s≤ = i .nums .s≤; n≤ = let z = r .stored .1 in omega arith }; sealed = i .sealed; book = i .book; files = i .files; card = i .card; kept = i .kept };
-      link = link-rec c _ (setN (c .vault) (suc (c .vault .n))) (D.RecoverFile true) (r .key-is) e refl (r .table) (r .stored .0, r .stored .2);
-    },
-  ))
 
   -- the file that is put out, and that it can be written
   abbrev pub nextFile : State → OpenedFile
@@ -107,60 +81,75 @@ module _ (key : List ℕ) where
   pub has-next : (c : State) (d : Durable) → HasNext (c .vault .s) (d .cards ++ (nextFile c ∷ []))
   has-next c d = (nextFile c, Memᴰ·append-right (d .cards) (List·Memᴰ·head refl), refl)
 
+  -- S may rise by one
+  s-next : (c : State) (b : Bool) → c .vault .s + checkpointsLeft b ≤ counterMax → c .vault .s + 1 ≤ counterMax
+  s-next c false h = omega arith
+  s-next c true h = h
+
   keep-file : (c : State) (d : Durable) → Durably (At c d) → c .phase ≡ F.Recovering → (b : Bool) → Recovering key c (At c d) (D.RecoverFile b) → (room : ℕ) → GoodAnswer key (At c d) none (recoverDue c room (D.RecoverFile b))
   unfolding recoverDue
-  keep-file c d i e b r room = good-refuse _ none _ c 1 [] _ (λ _. good-refuse _ none _ c 3 _ _ (λ _. (
-    outFile (nextFile c),
-    record {
-      puts = (refl, file-is c (r .key-is));
-      rises = tt;
-      now = file-now c d i (r .table) (fits b (r .stored));
-      then = file-then c d i (r .table) (fits b (r .stored));
-      link = link-rec c _ (c .vault) (D.RecoverVersion b) (r .key-is) e refl (r .table) (due b (r .stored));
-    },
-  )))
-    where
-      fits : (b : Bool) → RecoverDue (c .vault) (At c d) (D.RecoverFile b) → c .vault .s + 1 ≤ counterMax
-      fits false r = let z = r .0 in omega arith
-      fits true r = r .0
+  keep-file c d i e b r room = good-refuse _ none _ c 1 [] _ (λ _. good-refuse _ none _ c 3 _ _ (λ _.
+      let h = s-next c b (r .stored .s-room) in (
+        outFile (nextFile c),
+        record {
+          puts = (refl, file-is c (r .key-is));
+          rises = tt;
+          now = file-now c d i (r .table) h;
+          then = file-then c d i (r .table) h;
+          link = link-rec c _ (c .vault) (D.RecoverVersion b) (r .key-is) e refl (r .table) (r .stored, has-next c d);
+        },
+      )))
 
-      due : (b : Bool) → RecoverDue (c .vault) (At c d) (D.RecoverFile b) → RecoverDue (c .vault) (filed (outFile (nextFile c)) (known (outFile (nextFile c)) (At c d))) (D.RecoverVersion b)
-      due false r = (r .0, r .1, r .2, has-next c d)
-      due true r = (r .0, r .1, has-next c d)
+  -- the first checkpoint leaves room for the second; behind the second every file of version S has the whole book
+  version-due : (x : Vault) (d : Durable) (b : Bool) → Durably (vaultTo d x) → RecoverDue x d (D.RecoverVersion b) → RecoverDue (setS x (suc (x .s))) (vaultTo d (setS x (suc (x .s)))) (afterVersion b)
+  unfolding afterVersion
+  version-due x d false i r = let a = r .0 in record { s-room = omega arith; n-room = a .n-room; e-room = a .e-room }
+  version-due x d true i r = let a = r .0 in (omega arith, record { caught = settled-s (i .files); r-is-w = λ k h. absurd (omega arith); v-is-w = λ k h. absurd (omega arith); e-room = omega (arith, a .e-room) })
 
   keep-S : (c : State) (d : Durable) → Durably (At c d) → c .phase ≡ F.Recovering → (b : Bool) → Recovering key c (At c d) (D.RecoverVersion b) → (room : ℕ) → GoodAnswer key (At c d) none (recoverDue c room (D.RecoverVersion b))
-  unfolding recoverDue afterVersion
+  unfolding recoverDue
   keep-S c d i e b r room = good-refuse _ none _ c 1 [] _ (λ _. (
     quiet,
     record {
       puts = tt;
       rises = omega arith;
       now = i;
-      then = record { lanes = i .lanes; nums = record { e≤ = i .nums .e≤; s≤ = fits b (r .stored); n≤ = i .nums .n≤ }; sealed = i .sealed; book = i .book; files = files-s (i .files); card = i .card; kept = kept-s (has b (r .stored)) (i .kept) };
-      link = link-rec c _ (setS (c .vault) (suc (c .vault .s))) (cond b (D.RecoverR 0) D.RecoverSeal) (r .key-is) e refl (r .table) (due b (r .stored));
+      then = record { lanes = i .lanes; nums = record { e≤ = i .nums .e≤; s≤ = let z = s-next c b (r .stored .0 .s-room) in omega arith; n≤ = i .nums .n≤ }; sealed = i .sealed; book = i .book; files = files-s (i .files); card = i .card; kept = kept-s (r .stored .1) (i .kept) };
+      link = link-rec c _ (setS (c .vault) (suc (c .vault .s))) (afterVersion b) (r .key-is) e refl (r .table) (version-due (c .vault) d b i (r .stored));
     },
   ))
-    where
-      fits : (b : Bool) → RecoverDue (c .vault) (At c d) (D.RecoverVersion b) → suc (c .vault .s) ≤ counterMax
-      fits true r = let z = r .0 in omega arith
-      fits false r = let z = r .0 in omega arith
 
-      has : (b : Bool) → RecoverDue (c .vault) (At c d) (D.RecoverVersion b) → HasNext (c .vault .s) (d .cards)
-      has false r = r .3
-      has true r = r .2
+  keep-N : (c : State) (d : Durable) → Durably (At c d) → c .phase ≡ F.Recovering → Recovering key c (At c d) D.RecoverSeal → (room : ℕ) → GoodAnswer key (At c d) none (recoverDue c room D.RecoverSeal)
+  unfolding recoverDue
+  keep-N c d i e r room = let a = r .stored in good-refuse _ none _ c 1 [] _ (λ _. (
+    quiet,
+    record {
+      puts = tt;
+      rises = omega arith;
+      now = i;
+      then = record { lanes = i .lanes; nums = record { e≤ = i .nums .e≤; s≤ = i .nums .s≤; n≤ = let z = a .n-room in omega arith }; sealed = i .sealed; book = i .book; files = i .files; card = i .card; kept = i .kept };
+      link = link-rec c _ (setN (c .vault) (suc (c .vault .n))) (D.RecoverFile true) (r .key-is) e refl (r .table) (record { s-room = a .s-room; n-room = let z = a .n-room in omega arith; e-room = a .e-room });
+    },
+  ))
 
-      due : (b : Bool) → RecoverDue (c .vault) (At c d) (D.RecoverVersion b) → RecoverDue (setS (c .vault) (suc (c .vault .s))) (vaultTo d (setS (c .vault) (suc (c .vault .s)))) (cond b (D.RecoverR 0) D.RecoverSeal)
-      due false r = (let z = r .0 in omega arith, r .1, r .2)
-      due true r = (r .1, settled-s (i .files), omega arith, λ k h. absurd (omega arith))
+  -- behind R of a lane: the next lane, and behind the last E and V, or emptying the log
+  r-due : (x : Vault) (d : Durable) (l : ℕ) (b q : Bool) → l < lanes → Raising x d (suc l) 0 1 → ltb (suc l) lanes ≡ b → allBelow (λ i. eqb (at (x .w) i) (at (x .v) i)) lanes ≡ q
+      → RecoverDue x d (cond b (D.RecoverR (suc l)) (cond q D.RecoverEmpty D.RecoverEpoch))
+  r-due x d l true q h f eb eq = (ltb-true (suc l) lanes eb, f)
+  r-due x d l false true h f eb eq = let z = ltb-false (suc l) lanes eb in
+      record { caught = f .caught; r-is-w = λ k lt. f .r-is-w k (omega arith); v-is-w = λ k lt. sym (eqb-true (at (x .w) k) (at (x .v) k) (all-at _ lanes eq k lt)); e-room = let y = f .e-room in omega arith }
+  r-due x d l false false h f eb eq = let z = ltb-false (suc l) lanes eb in record { caught = f .caught; r-is-w = λ k lt. f .r-is-w k (omega arith); v-is-w = f .v-is-w; e-room = f .e-room }
 
   keep-R : (c : State) (d : Durable) → Durably (At c d) → c .phase ≡ F.Recovering → (l : ℕ) → Recovering key c (At c d) (D.RecoverR l) → (room : ℕ) → GoodAnswer key (At c d) none (recoverDue c room (D.RecoverR l))
   unfolding recoverDue afterR allVisible
   keep-R c d i e l r room =
-      let s = r .stored .1 in
-      let h = r .stored .2 in
+      let h = r .stored .0 in
+      let a = r .stored .1 in
+      let s = a .caught in
       let x : Vault = setR (c .vault) l (at (c .vault .w) l) in
       let ln = i .lanes .lane l in
-      let u = up-set (c .vault .r) l (at (c .vault .w) l) (omega (arith, i .lanes .rlen)) (ln .gone) in
+      let lr : l < length (c .vault .r) = omega (arith, i .lanes .rlen) in
+      let u = up-set (c .vault .r) l (at (c .vault .w) l) lr (ln .gone) in
       let i′ = lanes-r l (at (c .vault .w) l) h (omega arith) (inr (omega arith)) (i .lanes) in
       good-refuse _ none _ c 1 [] _ (λ _. (
         quiet,
@@ -170,40 +159,53 @@ module _ (key : List ℕ) where
           now = i;
           then = record { lanes = i′; nums = i .nums; sealed = i .sealed; book = book-r u (i .book); files = files-r (x .r) (s .some-s) (λ f m v. full-upto (x .r) (s .full f m v)) (i .files); card = card-r u (i .card); kept = i .kept };
           link = link-rec c (vaultTo d x) x (afterR (c .vault) l) (r .key-is) e refl (r .table)
-              (due-r x (vaultTo d x) l (ltb (suc l) lanes) (allBelow (λ k. eqb (at (c .vault .w) k) (at (c .vault .v) k)) lanes) (i′ .rlen) (i′ .wlen) (i′ .vlen) (r .stored .0) s h (next-lane (c .vault .r) (c .vault .w) l (omega (arith, i .lanes .rlen)) (r .stored .3)) refl refl);
+              (r-due x (vaultTo d x) l (ltb (suc l) lanes) (allBelow (λ k. eqb (at (c .vault .w) k) (at (c .vault .v) k)) lanes) h
+              (record { caught = s; r-is-w = next-lane (c .vault .r) (c .vault .w) l lr (a .r-is-w); v-is-w = λ k lt. absurd (omega arith); e-room = a .e-room }) refl refl);
         },
       ))
 
+  -- where R is W in each lane, V and E are free to rise
   keep-E : (c : State) (d : Durable) → Durably (At c d) → c .phase ≡ F.Recovering → Recovering key c (At c d) D.RecoverEpoch → (room : ℕ) → GoodAnswer key (At c d) none (recoverDue c room D.RecoverEpoch)
   unfolding recoverDue
-  keep-E c d i e r room = good-refuse _ none _ c 1 [] _ (λ _. (
-    quiet,
-    record {
-      puts = tt;
-      rises = omega arith;
-      now = i;
-      then = record {
-        lanes = i .lanes;
-        nums = record { e≤ = let z = r .stored .0 in omega arith; s≤ = i .nums .s≤; n≤ = i .nums .n≤ };
-        sealed = i .sealed;
-        book = book-free (suc (c .vault .e)) (λ l. omega arith) (λ l. let a = i .lanes .lane l in let z = r .stored .2 l in omega arith) (i .book);
-        files = i .files;
-        card = i .card;
-        kept = i .kept;
-      };
-      link = link-rec c _ (setE (c .vault) (suc (c .vault .e))) (D.RecoverV 0) (r .key-is) e refl (r .table) (r .stored .1, r .stored .2, omega arith, λ k h. absurd (omega arith));
-    },
-  ))
+  keep-E c d i e r room =
+      let a = r .stored in
+      let ev = even-all (c .vault .r) (c .vault .w) (i .lanes .rlen) (i .lanes .wlen) (a .r-is-w) in
+      good-refuse _ none _ c 1 [] _ (λ _. (
+        quiet,
+        record {
+          puts = tt;
+          rises = omega arith;
+          now = i;
+          then = record {
+            lanes = i .lanes;
+            nums = record { e≤ = let z = a .e-room in omega arith; s≤ = i .nums .s≤; n≤ = i .nums .n≤ };
+            sealed = i .sealed;
+            book = book-free (suc (c .vault .e)) (λ l. omega arith) (λ l. let b = i .lanes .lane l in let z = ev l in omega arith) (i .book);
+            files = i .files;
+            card = i .card;
+            kept = i .kept;
+          };
+          link = link-rec c _ (setE (c .vault) (suc (c .vault .e))) (D.RecoverV 0) (r .key-is) e refl (r .table)
+              (omega arith, record { caught = a .caught; r-is-w = a .r-is-w; v-is-w = λ k h. absurd (omega arith); e-room = let z = a .e-room in omega arith });
+        },
+      ))
+
+  v-due : (x : Vault) (d : Durable) (l : ℕ) (b : Bool) → l < lanes → Raising x d lanes (suc l) 0 → ltb (suc l) lanes ≡ b → RecoverDue x d (cond b (D.RecoverV (suc l)) D.RecoverEmpty)
+  v-due x d l true h f eb = (ltb-true (suc l) lanes eb, f)
+  v-due x d l false h f eb = let z = ltb-false (suc l) lanes eb in record { caught = f .caught; r-is-w = f .r-is-w; v-is-w = λ k lt. f .v-is-w k (omega arith); e-room = f .e-room }
 
   keep-V : (c : State) (d : Durable) → Durably (At c d) → c .phase ≡ F.Recovering → (l : ℕ) → Recovering key c (At c d) (D.RecoverV l) → (room : ℕ) → GoodAnswer key (At c d) none (recoverDue c room (D.RecoverV l))
   unfolding recoverDue afterV
   keep-V c d i e l r room =
-      let h = r .stored .2 in
+      let h = r .stored .0 in
+      let a = r .stored .1 in
+      let ev = even-all (c .vault .r) (c .vault .w) (i .lanes .rlen) (i .lanes .wlen) (a .r-is-w) in
       let x : Vault = setV (c .vault) l (at (c .vault .w) l) in
       let ln = i .lanes .lane l in
-      let u = up-set (c .vault .v) l (at (c .vault .w) l) (omega (arith, i .lanes .vlen)) (ln .seen) in
-      let i′ = lanes-v l (at (c .vault .w) l) h (omega arith) (inr (let z = r .stored .1 l in omega arith)) (i .lanes) in
-      let f : (k : ℕ) → at (x .v) k ≤ at (x .r) k = λ k. let a = i′ .lane k .seen in let z = r .stored .1 k in omega arith in
+      let lv : l < length (c .vault .v) = omega (arith, i .lanes .vlen) in
+      let u = up-set (c .vault .v) l (at (c .vault .w) l) lv (ln .seen) in
+      let i′ = lanes-v l (at (c .vault .w) l) h (omega arith) (inr (let z = ev l in omega arith)) (i .lanes) in
+      let f : (k : ℕ) → at (x .v) k ≤ at (x .r) k = λ k. let b = i′ .lane k .seen in let z = ev k in omega arith in
       good-refuse _ none _ c 1 [] _ (λ _. (
         quiet,
         record {
@@ -212,16 +214,16 @@ module _ (key : List ℕ) where
           now = i;
           then = record { lanes = i′; nums = i .nums; sealed = i .sealed; book = book-free (c .vault .e) u f (i .book); files = i .files; card = card-free f (i .card); kept = i .kept };
           link = link-rec c (vaultTo d x) x (afterV l) (r .key-is) e refl (r .table)
-              (due-v x (vaultTo d x) l (ltb (suc l) lanes) (i′ .wlen) (i′ .vlen) (r .stored .0) (r .stored .1) h (next-lane (c .vault .v) (c .vault .w) l (omega (arith, i .lanes .vlen)) (r .stored .3)) refl);
+              (v-due x (vaultTo d x) l (ltb (suc l) lanes) h (record { caught = a .caught; r-is-w = a .r-is-w; v-is-w = next-lane (c .vault .v) (c .vault .w) l lv (a .v-is-w); e-room = a .e-room }) refl);
         },
       ))
 
   keep-empty : (c : State) (d : Durable) → Durably (At c d) → Recovering key c (At c d) D.RecoverEmpty → (room : ℕ) → GoodAnswer key (At c d) none (recoverDue c room D.RecoverEmpty)
   unfolding recoverDue inService cnt marksOf marksTo pointsOf
   keep-empty c d i r room =
-      let s = r .stored .0 in
-      let rw = r .stored .1 in
-      let vw = r .stored .2 in
+      let s = r .stored .caught in
+      let rw = even-all (c .vault .r) (c .vault .w) (i .lanes .rlen) (i .lanes .wlen) (r .stored .r-is-w) in
+      let vw = even-all (c .vault .v) (c .vault .w) (i .lanes .vlen) (i .lanes .wlen) (r .stored .v-is-w) in
       let f : (l : ℕ) → at (c .vault .v) l ≤ at (c .vault .r) l = λ l. let a = rw l in let b = vw l in omega arith in (
         quiet,
         record {

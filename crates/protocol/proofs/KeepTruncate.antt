@@ -16,7 +16,7 @@ use Rattle.table.specs.Table.{lanes}
 use Rattle.protocol.specs.Vaults.{setR}
 use Rattle.protocol.specs.States.{listed, withVault, withPoints}
 use Rattle.protocol.specs.Point.{marksOf}
-use Rattle.protocol.specs.Truncate.{pointsOf, findPoint, pointsAbove, droppedTo, afterTruncateR, truncateLane, truncateFirst, truncateNext, truncateDue, truncate}
+use Rattle.protocol.specs.Truncate.{pointsOf, findPoint, pointsAbove, droppedTo, afterTruncateR, truncateLane, uncovered, truncateFirst, truncateNext, truncateDue, truncate}
 use Rattle.protocol.specs.declared.Point.{Point}
 use Rattle.protocol.specs.declared.State.{State}
 use Rattle.protocol.specs.declared.Phase.the-variants as F
@@ -122,6 +122,11 @@ above-total cs m pos (q ∷ ps) p a k n e = go (List·Memᴰ·cases-cons n) (abo
         let u = ap length g in omega arith
     go (inr i) (kept g l) ih = let z = a .0 p i in absurd (omega arith)
     go (inr i) (gone g l) ih = let u = ap length g in let t = ih i in omega arith
+
+-- a point that is not turned down is covered
+is-covered : (p : Point) → uncovered p ≡ false → p .covered ≡ true
+unfolding uncovered
+is-covered p e = not-false (p .covered) e
 
 module _ (key : List ℕ) where
   -- behind R of lane j: the next lane, or the deletion
@@ -235,9 +240,9 @@ module _ (key : List ℕ) where
   keep-first : (c : State) (d : Durable) (pos : ℕ) (o : Option Point) → Durably (At c d) → c .phase ≡ F.Serving → Service key c (At c d) D.Nothing → findPoint pos (pointsOf (c .points)) ≡ o → GoodAnswer key (At c d) none (truncateFirst c pos o)
   unfolding truncateFirst
   keep-first c d pos none i e s f = tt
-  keep-first c d pos (some p) i e s f = good-refuse key _ none (not (p .covered)) c 14 [] _ (λ r.
+  keep-first c d pos (some p) i e s f = good-refuse key _ none _ c 14 [] _ (λ r. let cv = is-covered p r in
       keep-lane c d pos 0 p i e (s .common) (s .key-is) (s .arrays) (s .table) f
-      (record { stale = s .stored .0; at-point = p; found = f; covered = not-false (p .covered) r; did = λ l lt. absurd (omega arith); left = λ l ge. s .stored .1 l }) (omega arith))
+      (record { stale = s .stored .0; at-point = p; found = f; covered = cv; did = λ l lt. absurd (omega arith); left = λ l ge. s .stored .1 l }) (omega arith))
 
   keep-next : (c : State) (d : Durable) (pos lane : ℕ) (o : Option Point) → Durably (At c d) → c .phase ≡ F.Serving → Service key c (At c d) (D.TruncateR lane pos) → findPoint pos (pointsOf (c .points)) ≡ o → GoodAnswer key (At c d) none (truncateNext c pos lane o)
   unfolding truncateNext

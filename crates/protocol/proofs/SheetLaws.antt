@@ -33,10 +33,10 @@ use Rattle.protocol.specs.States.{valid, ready, withVault}
 use Rattle.protocol.specs.Said.{Answered, taking, refuse}
 use Rattle.protocol.specs.Load.{loaded, load}
 use Rattle.protocol.specs.Accept.{tooLow, listedMore, holding, accepted, accept, holds, heldRecord, seal}
-use Rattle.protocol.specs.Commit.{committed, commitOpened, commit}
-use Rattle.protocol.specs.Point.{point, pointed, pointsMore, journalOf, marksOf, marksTo, marksFrom, laneCount, unseenBelow, countsAt}
+use Rattle.protocol.specs.Commit.{committed, commitOpened, commit, outOfTurn}
+use Rattle.protocol.specs.Point.{point, pointed, pointsMore, journalOf, marksOf, marksTo, marksFrom, laneCount, unseenBelow, countsAt, pointAt}
 use Rattle.protocol.specs.Replay.{Read, passedOver, orStop, behind, stepOpened, steps, missingFrom, orMissing, ended, replay}
-use Rattle.protocol.specs.Recover.{logMax, spent, recovered, recoverRead, recoverLog, recoverFile, recoverFrom, recoverFirst, inService, recoverPhase, recover}
+use Rattle.protocol.specs.Recover.{logMax, spent, recovered, recoverRead, recoverLog, otherVersion, recoverFile, recoverFrom, recoverFirst, inService, recoverPhase, recover}
 use Rattle.protocol.specs.Sheet.{gives, Holds, number, display, someWrites, transaction, read, counted, vaultOf, acceptAt, commitSealed, visibleAt, logOf, fromLog, fromVersion, versioned, served, sealedOf, two, recordMax, sheet}
 use Rattle.protocol.specs.declared.Vault.{Vault}
 use Rattle.protocol.specs.declared.State.{State}
@@ -205,7 +205,7 @@ module _ (key : List ℕ) where
   second = committed (sealedAt first 20) (one 2)
 
   two-is : two key ≡ second
-  unfolding two served loaded newVault inService accept seal refuse ready valid vaultOk laneOk holds heldRecord accepted holding listedMore tooLow legal sized writeCount transaction someWrites littleBytes allBelow legalWrite writeAt writeIn lowest little padded commitOpened committed
+  unfolding two served loaded newVault inService accept seal refuse ready valid vaultOk laneOk holds heldRecord accepted holding listedMore tooLow legal sized writeCount transaction someWrites littleBytes allBelow legalWrite writeAt writeIn lowest little padded commitOpened outOfTurn committed
   two-is =
       ap (λ (c : State). visibleAt c 20) (visible-is (served key) (sealedAt (served key) 10) 10 1 refl (omega arith) refl refl)
       ∙ visible-is first (sealedAt first 20) 20 2 refl (omega arith) refl refl
@@ -214,7 +214,7 @@ module _ (key : List ℕ) where
   pointing c = counted (point c 20) ∷ counted (point c 21) ∷ display (acceptAt (point c 21 .state) 21) ∷ display (acceptAt (point c 21 .state) 22) ∷ []
 
   second-points : pointing second ≡ 1 ∷ 2 ∷ 6 ∷ 0 ∷ []
-  unfolding counted number point pointed pointsMore journalOf marksOf marksTo marksFrom laneCount unseenBelow countsAt served loaded newVault inService accept refuse ready valid vaultOk laneOk accepted holding listedMore tooLow legal sized writeCount transaction someWrites littleBytes allBelow legalWrite writeAt writeIn lowest little padded committed
+  unfolding counted number point pointed pointsMore journalOf marksOf marksTo marksFrom laneCount unseenBelow countsAt pointAt served loaded newVault inService accept refuse ready valid vaultOk laneOk accepted holding listedMore tooLow legal sized writeCount transaction someWrites littleBytes allBelow legalWrite writeAt writeIn lowest little padded committed
   second-points = refl
 
   m11 : Marked key 11
@@ -228,7 +228,7 @@ unfolding versioned
 version-opens key s h = file-opens key (record { version = s; seal = 0; table = emptyTable }) (record { canonical = empty-canonical; version = h; seal = omega arith })
 
 m12 : (key : List ℕ) → length key ≡ 16 → Marked key 12
-unfolding sheet fromVersion number loaded newVault vaultOk laneOk allBelow recover recoverPhase recoverFirst recoverFrom recoverFile recoverLog recoverRead refuse valid spent openFile legalFile replay steps ended missingFrom orMissing
+unfolding sheet fromVersion number loaded newVault vaultOk laneOk allBelow recover recoverPhase recoverFirst recoverFrom recoverFile otherVersion recoverLog recoverRead refuse valid spent openFile legalFile replay steps ended missingFrom orMissing
 m12 key long = rw (loads key (setS newVault (2 ^ 48 - 3)) long refl, loads key (setS newVault (2 ^ 48 - 2)) long refl, version-opens key (2 ^ 48 - 3) (omega arith))
 
 -- ---- the sheet

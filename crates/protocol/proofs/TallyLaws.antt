@@ -24,7 +24,7 @@ use Rattle.protocol.specs.Said.{Answered, taking, refuse}
 use Rattle.protocol.specs.Checkpoint.{tableFile}
 use Rattle.protocol.specs.Replay.{Read, stopped, reading}
 use Rattle.protocol.specs.Recover.{spent, recovered, recoverRead, recoverLog, recoverFile, recoverFrom, recoverFirst, afterVersion, allVisible, afterR, afterV, inService, recoverDue, recoverPhase, recover}
-use Rattle.protocol.specs.Truncate.{pointsOf, findPoint, droppedTo, afterTruncateR, truncateLane, truncateFirst, truncateNext, truncateDue, truncate}
+use Rattle.protocol.specs.Truncate.{pointsOf, findPoint, droppedTo, afterTruncateR, truncateLane, uncovered, truncateFirst, truncateNext, truncateDue, truncate}
 use Rattle.protocol.specs.History.{isTaken}
 use Rattle.protocol.specs.Tally.{fromLane, eachLane, storeR, storeV, lastStores, recoveryStores, truncateStores, answers, lastState, named, namedBy, Names, Serves, Dropped}
 use Rattle.protocol.specs.declared.Vault.{Vault}
@@ -285,7 +285,7 @@ module _ (c : State) (position : ℕ) (p : Point) (found : findPoint position (p
 
   cut-first : (x : Vault) → VaultFine x → p .covered ≡ true
       → cut (withVault c x D.Nothing) ≡ taking (withVault c (setR x 0 (at (p .counts) 0)) (D.TruncateR 1 position)) (storeCount 0) []
-  unfolding truncateDue truncateFirst truncateLane afterTruncateR refuse
+  unfolding truncateDue truncateFirst uncovered truncateLane afterTruncateR refuse
   cut-first x f h = cuts x D.Nothing f ∙ rw (found, h)
 
   names-delete : (x : Vault) → VaultFine x → Names cut (withVault c x (D.TruncateDelete position)) (S.Delete (p .position) ∷ []) (Dropped c position)

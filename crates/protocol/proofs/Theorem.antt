@@ -25,7 +25,7 @@ use Rattle.protocol.specs.Said.{Said, refused, taken, Answered, refuse}
 use Rattle.protocol.specs.Load.{keyLen, loaded, load}
 use Rattle.protocol.specs.Truncate.{pointsOf}
 use Rattle.protocol.specs.Replay.{Read, stopped, reading, replay}
-use Rattle.protocol.specs.Recover.{logMax, spent, recovered, recoverRead, recoverLog, recoverFile, recoverFrom, recoverFirst, recoverDue, recoverPhase, recover, inService}
+use Rattle.protocol.specs.Recover.{logMax, spent, recovered, recoverRead, recoverLog, recoverFile, otherVersion, recoverFrom, recoverFirst, recoverDue, recoverPhase, recover, inService}
 use Rattle.protocol.specs.Book.{bookTable}
 use Rattle.protocol.specs.History.{Card, Event, call, Call, callRecover, World, newWorld, Lasting, settled, done, bookAfter, afterSaid, afterAnswer, answer, answerOf, addsOf, next, run, isTaken, Honest, Premises, withSealings, faithfulLog, FaithfulFile}
 use Rattle.protocol.specs.Claim.{NotLower, after, Listed, TableIsTheBooks, FaithfulCardIsTaken, LoadIsTaken, CardHasAFile, LogIsShort, NoStoreLowers, TruncatesNine, Claim, Beside, Demand3}
@@ -187,7 +187,7 @@ module _ (key : List ℕ) where
   -- and its checkpoint is that of a version that is asked for
   live-file : (c : State) (d : Durable) (a : Lasting) (s : ℕ) (file : List ℕ) → c .vault .s ≡ s → c .key ≡ key → Durably (At c d) → Apart key a d → FaithfulFile s (a .card) file
       → recoverFrom c file (laidOut key (recsOf (d .spots))) .said ≡ taken (S.N (suc (c .vault .n))) 0
-  unfolding FaithfulFile recoverFrom recoverFile
+  unfolding FaithfulFile recoverFrom recoverFile otherVersion
   live-file c d a zero file q kk i h f =
       rw (eq-eqb (c .vault .s) 0 q) (past-refuse _ c 9 (0 ∷ []) _ _ (rw f) (live-log c d emptyTable kk i))
   live-file c d a (suc s) file q kk i h f =

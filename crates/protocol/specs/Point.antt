@@ -12,6 +12,7 @@ use Rattle.table.specs.Table.{lanes}
 use Rattle.protocol.specs.States.{listed, pointsMax, ready}
 use Rattle.protocol.specs.Said.{Answered, refuse, taking}
 use Rattle.protocol.specs.declared.Journal.{Journal}
+use Rattle.protocol.specs.declared.Point.{Point}
 use Rattle.protocol.specs.declared.Points.{Points}
 use Rattle.protocol.specs.declared.State.{State}
 use Rattle.protocol.specs.declared.Store.the-variants as S
@@ -60,12 +61,17 @@ journalOf ms used last = record {
 unfoldable pub countsAt : List ℕ → List Mark → List ℕ
 countsAt w ms = tab lanes (λ lane. at w lane - laneCount lane ms)
 
-unfoldable pub pointsMore : Points → ℕ → List ℕ → Points
-pointsMore p position counts = record {
-  items = set (p .items) (p .count) (record { position = position; counts = counts; covered = false });
+-- the point at a position
+unfoldable pub pointAt : State → ℕ → Point
+pointAt c position = record { position = position; counts = countsAt (c .vault .w) (marksFrom position (marksOf (c .journal))); covered = false }
+
+-- a point more, now the newest
+unfoldable pub pointsMore : Points → Point → Points
+pointsMore p q = record {
+  items = set (p .items) (p .count) q;
   count = suc (p .count);
   any = true;
-  newest = position;
+  newest = q .position;
 }
 
 unfoldable pub pointed : State → ℕ → State
@@ -75,7 +81,7 @@ pointed c position = record {
   due = c .due;
   table = c .table;
   journal = journalOf (marksFrom position (marksOf (c .journal))) (c .journal .used) (c .journal .last);
-  points = pointsMore (c .points) position (countsAt (c .vault .w) (marksFrom position (marksOf (c .journal))));
+  points = pointsMore (c .points) (pointAt c position);
   held = c .held;
   key = c .key;
 }

@@ -56,9 +56,13 @@ recoverRead c (reading g) = taking (recovered c (g .table)) (S.N (suc (c .vault 
 unfoldable pub recoverLog : State → List ℕ → Table → Answered
 recoverLog c log t = recoverRead c (replay (aesGcm (c .key)) (c .vault) t log)
 
+-- the checkpoint's version is not S
+unfoldable pub otherVersion : State → OpenedFile → Bool
+otherVersion c f = not (eqb (f .version) (c .vault .s))
+
 unfoldable pub recoverFile : State → List ℕ → Option OpenedFile → Answered
 recoverFile c log none = refusing c 9 (0 ∷ [])
-recoverFile c log (some f) = refuse (not (eqb (f .version) (c .vault .s))) c 12 [] (recoverLog c log (f .table))
+recoverFile c log (some f) = refuse (otherVersion c f) c 12 [] (recoverLog c log (f .table))
 
 -- while S is 0 the checkpoint is of length 0, and the table empty
 unfoldable pub recoverFrom : State → List ℕ → List ℕ → Answered

@@ -2,7 +2,7 @@
 -- records below it. That point and older ones are dropped, so their places are free." Nine calls: R of lanes 0 to 7, the deletion.
 -- Assumes nothing.
 use Prim.Native.Nat.{ℕ, suc, _-_}
-use mathlib.Core.Bool.{Bool, cond, not, _&&_}
+use mathlib.Core.Bool.{Bool, false, cond, not, _&&_}
 use mathlib.Core.List.{List, [], _∷_, _++_}
 use mathlib.Core.Option.{Option, some, none}
 use lib.Dec.{leb, ltb, eqb}
@@ -47,9 +47,13 @@ unfoldable pub truncateLane : State → ℕ → ℕ → Point → Answered
 truncateLane c position lane p =
     taking (withVault c (setR (c .vault) lane (at (p .counts) lane)) (afterTruncateR lane position)) (S.R lane (at (p .counts) lane)) []
 
+-- no checkpoint covers the point
+unfoldable pub uncovered : Point → Bool
+uncovered p = not (p .covered)
+
 unfoldable pub truncateFirst : State → ℕ → Option Point → Answered
 truncateFirst c position none = refusing c 14 []
-truncateFirst c position (some p) = refuse (not (p .covered)) c 14 [] (truncateLane c position 0 p)
+truncateFirst c position (some p) = refuse (uncovered p) c 14 [] (truncateLane c position 0 p)
 
 -- a continuing call names the due store: at another position, or where its point or lane is none, it is turned down
 unfoldable pub truncateNext : State → ℕ → ℕ → Option Point → Answered
