@@ -2,21 +2,20 @@
 -- Assumes nothing.
 use Prim.Native.Nat.{ℕ}
 use mathlib.Core.Path.{_≡_, refl, sym, ap, ap₂, subst, _∙_}
-use mathlib.Core.Bool.{Bool, true, false}
 use mathlib.Core.Option.{Option, none, some}
 use mathlib.Core.Logic.{_⊎_, inl, inr}
 use mathlib.Core.List.{List, [], _∷_, _++_, map, List·Memᴰ, List·Memᴰ·head, List·Memᴰ·tail, List·Memᴰ·not-nil, List·Memᴰ·cases-cons}
 use Rattle.sealed.specs.Record.{Opened}
 use Rattle.sealed.specs.Checkpoint.{OpenedFile}
 use Rattle.protocol.specs.Vaults.{setW, setV, setR, setE, setS, setN}
-use Rattle.protocol.specs.History.{Placed, placedFrom, Lasting, Pending, Sealing, nothingPending, done, vaultAfter, cardAfter, bookAfter, sealedBy, withSealings, faithfulLog}
+use Rattle.protocol.specs.History.{Placed, placedFrom, Lasting, Sealing, nothingPending, done, vaultAfter, cardAfter, bookAfter, sealedBy, withSealings, faithfulLog}
 use Rattle.protocol.specs.declared.Vault.{Vault}
 use Rattle.protocol.specs.declared.State.{State}
 use Rattle.protocol.specs.declared.Store.{Store}
 use Rattle.protocol.specs.declared.Store.the-variants as S
 use Rattle.protocol.proofs.Basis.{bytesOf, fileOf}
 use Rattle.protocol.proofs.LaidLaws.{laidOut}
-use Rattle.protocol.proofs.Card.{Spot, spotsFrom, Rising, recsOf, placedOf, placed-from, in-order, end-to-end}
+use Rattle.protocol.proofs.Card.{Rising, recsOf, placedOf, placed-from, in-order, end-to-end}
 use Rattle.protocol.proofs.Listed.{map-snoc}
 use Rattle.protocol.proofs.Invariant.{Durable, Out, quiet, outRecord, outFile, known, carried, bookedTo, Known, as-record, as-file, Apart, Puts}
 

@@ -21,10 +21,10 @@ use Rattle.table.specs.Table.{lanes, entered}
 use Rattle.table.proofs.OrderLaws.{clash}
 use Rattle.sealed.specs.Aead.{aesGcm}
 use Rattle.sealed.specs.Record.{Opened}
-use Rattle.protocol.specs.Replay.{Reading, Read, reading, passedOver, orStop, behind, stepOpened, orMissing, ended, replay}
+use Rattle.protocol.specs.Replay.{Reading, Read, reading, passedOver, orStop, behind, stepOpened, ended, replay}
 use Rattle.protocol.specs.declared.Vault.{Vault}
 use Rattle.protocol.proofs.Basis.{Writable}
-use Rattle.protocol.proofs.MissingLaws.{missing-none}
+use Rattle.protocol.proofs.MissingLaws.{reached-ends}
 use Rattle.protocol.proofs.LaidLaws.{laidOut, goOn, follow, AllWritable, startAt, replay-laid}
 use Rattle.protocol.proofs.Card.{Spot, cnt, cnt-same, cnt-other, Consec, recsOf, mem-recs}
 
@@ -126,9 +126,10 @@ module _ (key : List ℕ) (x : Vault) (c : ℕ → ℕ)
   pub read-faithful : (xs : List Spot) (t : Table) → length (x .r) ≡ lanes → Consec c xs → ((p : Spot) → List·Memᴰ p xs → right (p .rec))
       → ((l : ℕ) → at (x .r) l < at (x .v) l → (at (x .v) l ≤ c l) × (c l ≤ at (x .r) l + cnt l xs))
       → (g : Reading) × (replay (aesGcm key) x t (laidOut key (recsOf xs)) ≡ reading g)
-  unfolding Ends ended orMissing cnt
-  read-faithful xs t len k r reach =
-      let e = reads xs (startAt x t) k r (record { spot = λ l h. let z = reach l h .1 in omega arith; len = len }) in
-      let m = e .2 in
-      let n = missing-none x (e .0 .last) (λ l i h. let s = m .spot l h in let z = reach l h .0 in omega arith) in
-      (e .0, replay-laid key x t (recsOf xs) (all-writable xs r) ∙ ap (ended x) (e .1) ∙ rw n)
+  unfolding Ends cnt
+  read-faithful xs t len k r reach = go (reads xs (startAt x t) k r (record { spot = λ l h. let z = reach l h .1 in omega arith; len = len }))
+    where
+      go : Ends (follow x (startAt x t) (recsOf xs)) → (g : Reading) × (replay (aesGcm key) x t (laidOut key (recsOf xs)) ≡ reading g)
+      go (g, e, m) =
+          let n = reached-ends x g (λ l i h. let s = m .spot l h in let z = reach l h .0 in omega arith) in
+          (g, replay-laid key x t (recsOf xs) (all-writable xs r) ∙ ap (ended x) e ∙ n)

@@ -25,11 +25,11 @@ use Rattle.sealed.specs.Log.{recordAt}
 use Rattle.sealed.proofs.LogTrip.{at-opens}
 use Rattle.protocol.specs.declared.Vault.{Vault}
 use Rattle.protocol.specs.Book.{withRecord}
-use Rattle.protocol.specs.Replay.{Reading, Read, stopped, reading, passedOver, orStop, stepOpened, step, stepOn, steps, missingFrom, orMissing, ended, replay}
+use Rattle.protocol.specs.Replay.{Reading, Read, stopped, reading, passedOver, orStop, stepOpened, step, stepOn, steps, ended, replay}
 use Rattle.protocol.proofs.Basis.{Writable}
 use Rattle.protocol.proofs.Lanes.{Put, same, other, put}
 use Rattle.protocol.proofs.Latest.{In, Part, Full, Upto, Single, sound-enter, cover-enter, canon-enter, cover-mono}
-use Rattle.protocol.proofs.MissingLaws.{none-missing}
+use Rattle.protocol.proofs.MissingLaws.{Reached, ends-reached}
 
 -- every number above R and not above V is in the book, under epoch e
 abbrev pub Whole : List ℕ → List ℕ → ℕ → List Opened → Type 0
@@ -124,17 +124,17 @@ module _ (key : List ℕ) (x : Vault) (book : List Opened) (sealed : Opened → 
     good-steps zero d h = h
     good-steps (suc n) d h = good-steps n (stepOn (aesGcm key) x log d) (good-on d h)
 
-  -- where no lane is missing, each has come to V
-  reached : (last : List ℕ) → ((l : ℕ) → at (x .r) l ≤ at last l) → missingFrom lanes 0 x last ≡ none → (l : ℕ) → at (x .v) l ≤ at last l
+  -- a lane with R < V has reached V, and any other is there already
+  reached : (last : List ℕ) → ((l : ℕ) → at (x .r) l ≤ at last l) → ((l : ℕ) → l < lanes → Reached x last l) → (l : ℕ) → at (x .v) l ≤ at last l
   reached last low e l = go (decLt l lanes) (decLt (at (x .r) l) (at (x .v) l))
     where
       go : Dec (l < lanes) → Dec (at (x .r) l < at (x .v) l) → at (x .v) l ≤ at last l
-      go (yes h) (yes k) = let z = none-missing x last e l h k in omega arith
+      go (yes h) (yes k) = let z = e l h k in omega arith
       go (yes h) (no k) = let z = low l in omega arith
       go (no h) k = let z : at (x .v) l ≡ 0 = List·getD-eq-default (x .v) 0 (let y : length (x .v) ≤ l = omega arith in y) in omega arith
 
   -- so the book is covered up to V, which is all of it
-  full : (last : List ℕ) (t : Table) → Loop last t → missingFrom lanes 0 x last ≡ none → Full book t
+  full : (last : List ℕ) (t : Table) → Loop last t → ((l : ℕ) → l < lanes → Reached x last l) → Full book t
   full last t h e = record {
     sound = h .upto .sound;
     cover = cover-mono (λ r m. (m, let p = seen r m in let q = reached last (h .low) e (r .lane) in omega arith)) (h .upto .cover);
@@ -143,13 +143,9 @@ module _ (key : List ℕ) (x : Vault) (book : List Opened) (sealed : Opened → 
 
   -- the end of the reading
   good-ended : (d : Read) (g : Reading) → Good d → ended x d ≡ reading g → Full book (g .table)
-  unfolding ended orMissing Good
+  unfolding ended Good
   good-ended (stopped n vs) g h e = let z : _≡_ {A = ℕ} 0 1 = cc in absurd (omega arith)
-  good-ended (reading f) g h e = go (missingFrom lanes 0 x (f .last)) refl e
-    where
-      go : (o : Option ℕ) → missingFrom lanes 0 x (f .last) ≡ o → orMissing o (reading f) ≡ reading g → Full book (g .table)
-      go none q e = let i : f ≡ g = cc in subst (λ (k : Reading). Full book (k .table)) i (full (f .last) (f .table) h q)
-      go (some l) q e = let z : _≡_ {A = ℕ} 0 1 = cc in absurd (omega arith)
+  good-ended (reading f) g h e = let i = ends-reached x f g e in subst (λ (k : Reading). Full book (k .table)) (i .0) (full (f .last) (f .table) h (i .1))
 
   -- from a table that has the book up to R, an accepted reading comes to the latest of the whole book
   pub replay-full : (log : List ℕ) → ((i n : ℕ) (r : Opened) → openRecord (aesGcm key) (take n (drop i log)) ≡ some r → sealed r) → (t : Table) → Upto book (x .r) t

@@ -19,11 +19,10 @@
 -- (10) in service: its table is the whole book's; no R is above V; the listed records are the card's from the newest point on; a point's counts
 --      are what lies below it, they are visible, and a covered point's are in every file of version S (Serving).
 -- Assumes nothing.
-use Prim.Native.Nat.{ℕ, zero, suc, _+_, _-_, _*_, _≤_, _<_, pred}
+use Prim.Native.Nat.{ℕ, suc, _+_, _-_, _*_, _≤_, _<_, pred}
 use mathlib.Core.Path.{_≡_}
 use mathlib.Core.Bool.{Bool, true, false, cond}
 use mathlib.Core.Option.{Option, none, some}
-use mathlib.Core.Logic.{_⊎_}
 use mathlib.Core.List.{List, [], _∷_, _++_, map, List·Memᴰ}
 use lib.ListN.{length}
 use Rattle.octets.specs.Lists.{at}
@@ -36,7 +35,7 @@ use Rattle.protocol.specs.States.{listed, pointsMax, heldText}
 use Rattle.protocol.specs.Point.{Mark, marksOf}
 use Rattle.protocol.specs.Truncate.{pointsOf, findPoint}
 use Rattle.protocol.specs.Said.{Said, refused, taken, Answered}
-use Rattle.protocol.specs.History.{Lasting, Pending, World, Sealing, settled}
+use Rattle.protocol.specs.History.{Lasting, World, Sealing, settled}
 use Rattle.protocol.specs.Claim.{NotLower}
 use Rattle.protocol.specs.declared.Vault.{Vault}
 use Rattle.protocol.specs.declared.Point.{Point}

@@ -1,14 +1,14 @@
 -- Accept, Seal and Commit keep the invariant. While a record is due, what is said of the card is said of it with that record behind.
 -- Assumes nothing.
-use Prim.Native.Nat.{ℕ, zero, suc, _+_, _-_, _*_, _≤_, _<_, pred}
+use Prim.Native.Nat.{ℕ, suc, _+_, _-_, _≤_, _<_, pred}
 use mathlib.Core.Path.{_≡_, refl, sym, ap, subst, subst₂, _∙_}
-use mathlib.Core.Bool.{Bool, true, false, cond, not, _&&_, _||_}
+use mathlib.Core.Bool.{Bool, true, false, not, _&&_, _||_}
 use mathlib.Core.Option.{Option, none, some}
 use mathlib.Core.Logic.{_⊎_, inl, inr, _≢_}
 use mathlib.Core.List.{List, [], _∷_, _++_, map, List·Memᴰ, List·Memᴰ·head, List·Memᴰ·tail, List·Memᴰ·append-cases, List·Memᴰ·eq-of-singleton}
 use native.Mathlib.Omega.{arith}
 use lib.Dec.{leb, ltb, eqb}
-use lib.ListN.{set, length, length-set, length-append, replicate}
+use lib.ListN.{set, length, length-set, length-append}
 use lib.Seq.{getD-set-same, take-append-seam}
 use borrow.Author.Tests.{eqb-true, ltb-false, leb-false}
 use Rattle.octets.specs.Lists.{at}
@@ -17,7 +17,6 @@ use Rattle.reading.specs.Transaction.{maxText, legal}
 use Rattle.table.specs.Table.{lanes}
 use Rattle.sealed.specs.Aead.{aesGcm}
 use Rattle.sealed.specs.Record.{Opened, recordBytes, openRecord}
-use Rattle.sealed.specs.Checkpoint.{OpenedFile}
 use Rattle.protocol.specs.Vaults.{counterMax}
 use Rattle.protocol.specs.States.{listed, valid, serving, heldText, withVault}
 use Rattle.protocol.specs.Accept.{tooLow, listedMore, holding, accepted, accept, isRecord, heldRecord, holds, seal}
@@ -34,7 +33,7 @@ use Rattle.protocol.proofs.Lanes.{Put, same, other, put}
 use Rattle.protocol.proofs.Latest.{In, upto-add, full-add}
 use Rattle.protocol.proofs.Card.{Spot, spotsFrom, cnt, cnt-snoc-same, cnt-snoc-other, consec-snoc, rising-snoc, from-snoc}
 use Rattle.protocol.proofs.Listed.{upto-length, upto-set, flag-false, map-snoc}
-use Rattle.protocol.proofs.Invariant.{Durable, quiet, outRecord, Durably, Crowd, Serving, Holding, heldSpot, Service, LinkedAt, Good, GoodAnswer, Known, At, markOf, floorOf, nextOf}
+use Rattle.protocol.proofs.Invariant.{Durable, quiet, outRecord, Durably, Crowd, Serving, heldSpot, Service, LinkedAt, Good, GoodAnswer, Known, At, markOf, floorOf, nextOf}
 use Rattle.protocol.proofs.StoreLaws.{Up, up-set, lanes-w, lanes-v, sealed-w, sealed-add, book-sealed, book-add, files-book, card-sealed}
 use Rattle.protocol.proofs.KeepRecover.{good-refuse}
 use Rattle.protocol.proofs.KeepCold.{not-false, unseal}

@@ -1,19 +1,18 @@
 -- Checkpoint keeps the invariant: its file has the whole book, so that once S is stored every point set before is in every file of version S.
 -- Assumes nothing.
-use Prim.Native.Nat.{ℕ, zero, suc, _+_, _*_, _≤_, _<_}
+use Prim.Native.Nat.{ℕ, suc, _≤_, _<_}
 use mathlib.Core.Path.{_≡_, refl, sym, ap, subst, _∙_}
-use mathlib.Core.Bool.{Bool, true, false, _||_}
+use mathlib.Core.Bool.{_||_}
 use mathlib.Core.Option.{none}
 use mathlib.Core.Logic.{_⊎_, inl, inr}
-use mathlib.Core.List.{List, [], _∷_, _++_, map, List·Memᴰ, List·Memᴰ·head, List·Memᴰ·tail, List·Memᴰ·not-nil, List·Memᴰ·cases-cons}
+use mathlib.Core.List.{List, [], _∷_, map, List·Memᴰ, List·Memᴰ·head, List·Memᴰ·tail, List·Memᴰ·not-nil, List·Memᴰ·cases-cons}
 use native.Mathlib.Omega.{arith}
 use lib.Dec.{leb}
 use lib.ListN.{length, length-map}
 use borrow.Author.Tests.{leb-false}
-use Rattle.octets.specs.Lists.{at}
 use Rattle.octets.proofs.BoolLaws.{or-left, or-right}
 use Rattle.sealed.specs.Checkpoint.{OpenedFile}
-use Rattle.protocol.specs.Vaults.{counterMax, setN, setS}
+use Rattle.protocol.specs.Vaults.{counterMax, setN}
 use Rattle.protocol.specs.States.{withVault}
 use Rattle.protocol.specs.Point.{marksOf}
 use Rattle.protocol.specs.Checkpoint.{tableFile, coveredPoint, coveredPoints, checkpointed, checkpointDue, checkpoint}

@@ -1,8 +1,8 @@
 -- Load, and the call by which Recover is accepted, keep the invariant: what opens was put out, so the reading comes to the whole book.
 -- Assumes nothing.
-use Prim.Native.Nat.{ℕ, zero, suc, _+_, _≤_, _<_}
-use mathlib.Core.Path.{_≡_, refl, sym, ap, subst, _∙_}
-use mathlib.Core.Bool.{Bool, true, false, cond, not, _&&_, _||_}
+use Prim.Native.Nat.{ℕ, _+_, _≤_}
+use mathlib.Core.Path.{_≡_, refl, subst}
+use mathlib.Core.Bool.{Bool, true, false, cond, not, _||_}
 use mathlib.Core.Option.{Option, none, some}
 use mathlib.Core.List.{List, [], _∷_}
 use native.Mathlib.Omega.{arith}
@@ -26,8 +26,8 @@ use Rattle.protocol.specs.declared.Vault.{Vault}
 use Rattle.protocol.specs.declared.State.{State}
 use Rattle.protocol.specs.declared.Phase.the-variants as F
 use Rattle.protocol.specs.declared.Store.the-variants as S
-use Rattle.protocol.proofs.Basis.{bytesOf, fileOf, opens, file-opens}
-use Rattle.protocol.proofs.Latest.{In, Full, Upto}
+use Rattle.protocol.proofs.Basis.{opens, file-opens}
+use Rattle.protocol.proofs.Latest.{In, Upto}
 use Rattle.protocol.proofs.Hostile.{replay-full}
 use Rattle.protocol.proofs.Invariant.{Durable, quiet, FileIn, SealedOnce, Filed, Durably, Known, as-record, as-file, GoodAnswer, At}
 use Rattle.protocol.proofs.KeepRecover.{good-refuse}

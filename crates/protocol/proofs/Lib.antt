@@ -1,5 +1,5 @@
 -- Theorems about the definitions.
--- BlankLaws: the blank state. RefusalLaws: refusals. VaultLaws: Load's rule as facts, and the stores that keep it. TallyLaws: the stores of
+-- BlankLaws: the blank state. RefusalLaws: refusals. SaidLaws: answers in 01's numbers lose nothing. VaultLaws: Load's rule as facts, and the stores that keep it. TallyLaws: the stores of
 -- recovery and truncation, in order.
 -- Basis: what the theorem takes from the layers below. Lanes: an array of lanes. Latest: the latest reading over a set of records.
 -- BookLaws: the book's table. MissingLaws: lanes that have not reached V. Hostile: reading any log. LaidLaws, Card, Faith: reading the log of
@@ -9,6 +9,7 @@
 -- Runs: every list keeps the invariants. Theorem: demand 3.
 pub mod BlankLaws
 pub mod RefusalLaws
+pub mod SaidLaws
 pub mod VaultLaws
 pub mod TallyLaws
 pub mod Basis

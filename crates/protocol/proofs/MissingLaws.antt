@@ -1,11 +1,11 @@
--- The lane that a reading of the log has not brought to V: there is none exactly where each lane with R < V has reached V. The search goes from
--- lane 0 up, so both ways are one induction over the lanes still to be looked at.
+-- The end of the reading: it is taken exactly where each lane with R < V has reached V. The search for a lane that has not goes from lane 0 up,
+-- so both ways are one induction over the lanes still to be looked at.
 -- Assumes nothing.
 use Prim.Native.Nat.{ℕ, zero, suc, _+_, _≤_, _<_}
-use mathlib.Core.Path.{_≡_, refl, subst}
+use mathlib.Core.Path.{_≡_, refl, ap, subst}
 use mathlib.Core.Bool.{Bool, true, false, cond, not, _&&_}
 use mathlib.Core.List.{List}
-use mathlib.Core.Option.{some, none}
+use mathlib.Core.Option.{Option, some, none}
 use mathlib.Core.Logic.{_⊎_, inl, inr}
 use native.Mathlib.Nat.{eq-or-lt-of-le}
 use native.Mathlib.Omega.{arith}
@@ -13,7 +13,7 @@ use borrow.Author.Tests.{ltb-true, eqb-true, eq-eqb, lt-ltb}
 use lib.Dec.{ltb, eqb}
 use Rattle.octets.specs.Lists.{at}
 use Rattle.table.specs.Table.{lanes}
-use Rattle.protocol.specs.Replay.{missingFrom}
+use Rattle.protocol.specs.Replay.{Reading, reading, missingFrom, orMissing, ended}
 use Rattle.protocol.specs.declared.Vault.{Vault}
 
 module _ (x : Vault) (last : List ℕ) where
@@ -60,9 +60,23 @@ module _ (x : Vault) (last : List ℕ) where
       go false s f k = later s (k f) (eq-or-lt-of-le a)
 
   -- where all lanes have reached V, none is missing
-  pub missing-none : ((l : ℕ) → l < lanes → Reached l) → missingFrom lanes 0 x last ≡ none
+  missing-none : ((l : ℕ) → l < lanes → Reached l) → missingFrom lanes 0 x last ≡ none
   missing-none h = none-by lanes 0 (λ l a b. h l (omega arith))
 
   -- and where none is missing, all have
-  pub none-missing : missingFrom lanes 0 x last ≡ none → (l : ℕ) → l < lanes → Reached l
+  none-missing : missingFrom lanes 0 x last ≡ none → (l : ℕ) → l < lanes → Reached l
   none-missing e l h = by-none lanes 0 e l (omega arith) (omega arith)
+
+-- where each lane has reached V the reading stands
+pub reached-ends : (x : Vault) (g : Reading) → ((l : ℕ) → l < lanes → Reached x (g .last) l) → ended x (reading g) ≡ reading g
+unfolding ended orMissing
+reached-ends x g h = ap (λ (o : Option ℕ). orMissing o (reading g)) (missing-none x (g .last) h)
+
+-- and one that stands has brought each lane to V
+pub ends-reached : (x : Vault) (f g : Reading) → ended x (reading f) ≡ reading g → (f ≡ g) × ((l : ℕ) → l < lanes → Reached x (f .last) l)
+unfolding ended orMissing
+ends-reached x f g e = go (missingFrom lanes 0 x (f .last)) refl e
+  where
+    go : (o : Option ℕ) → missingFrom lanes 0 x (f .last) ≡ o → orMissing o (reading f) ≡ reading g → (f ≡ g) × ((l : ℕ) → l < lanes → Reached x (f .last) l)
+    go none q e = (cc, none-missing x (f .last) q)
+    go (some l) q e = let z : _≡_ {A = ℕ} 0 1 = cc in absurd (omega arith)

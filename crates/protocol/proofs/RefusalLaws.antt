@@ -9,7 +9,7 @@ use lib.Dec.{eqb}
 use Rattle.sealed.specs.Record.{Opened}
 use Rattle.sealed.specs.Checkpoint.{OpenedFile}
 use Rattle.table.specs.declared.Table.{Table}
-use Rattle.protocol.specs.Said.{Said, refused, taken, Answered, refusing, taking, refuse}
+use Rattle.protocol.specs.Said.{Said, refused, taken, Answered, refusing, refuse}
 use Rattle.protocol.specs.Accept.{accept, seal}
 use Rattle.protocol.specs.Commit.{commit, commitOpened}
 use Rattle.protocol.specs.Point.{point}

@@ -1,8 +1,8 @@
 -- Every list keeps the invariants: a new vault has them, and each event keeps them.
 -- Assumes nothing.
-use Prim.Native.Nat.{ℕ, zero, suc, _+_, _-_, _*_, _≤_, _<_}
-use mathlib.Core.Path.{_≡_, refl, sym, ap, subst, _∙_}
-use mathlib.Core.Bool.{Bool, true, false}
+use Prim.Native.Nat.{ℕ, _-_, _≤_, _<_}
+use mathlib.Core.Path.{_≡_, refl, sym, subst, _∙_}
+use mathlib.Core.Bool.{true, false}
 use mathlib.Core.Option.{Option, none, some}
 use mathlib.Core.Logic.{inl}
 use mathlib.Core.List.{List, [], _∷_, List·Memᴰ·not-nil}
@@ -13,12 +13,11 @@ use Rattle.octets.specs.Lists.{at}
 use Rattle.table.specs.Table.{lanes}
 use Rattle.sealed.specs.Aead.{aesGcm}
 use Rattle.sealed.specs.Record.{Opened, openRecord}
-use Rattle.sealed.specs.Checkpoint.{OpenedFile, openFile}
 use Rattle.protocol.specs.Vaults.{newVault}
-use Rattle.protocol.specs.Said.{Said, refused, taken, Answered, refuse}
+use Rattle.protocol.specs.Said.{Said, refused, taken, Answered}
 use Rattle.protocol.specs.Load.{load}
 use Rattle.protocol.specs.Recover.{recoverPhase, recover}
-use Rattle.protocol.specs.History.{Call, callLoad, callAccept, callSeal, callCommit, callPoint, callCheckpoint, callTruncate, callRecover, Event, call, cut, Lasting, World, nothingPending, newLasting, newWorld, settled, done, answerOf, firstAnswer, answer, addsOf, afterSaid, afterAnswer, next, run, isTaken, Honest, Premises}
+use Rattle.protocol.specs.History.{Call, callLoad, callAccept, callSeal, callCommit, callPoint, callCheckpoint, callTruncate, callRecover, Event, call, cut, Lasting, World, newLasting, newWorld, settled, done, answerOf, firstAnswer, answer, addsOf, afterSaid, afterAnswer, next, run, isTaken, Honest, Premises}
 use Rattle.protocol.specs.declared.Vault.{Vault}
 use Rattle.protocol.specs.declared.State.{State}
 use Rattle.protocol.specs.declared.Phase.{Phase}

@@ -1,18 +1,16 @@
 -- Demand 3: since every list keeps the invariants, the table of an accepted recovery is the book's, and a faithful card is taken.
 -- Assumes nothing.
-use Prim.Native.Nat.{ℕ, zero, suc, _+_, _-_, _*_, _^_, _≤_, _<_}
+use Prim.Native.Nat.{ℕ, zero, suc, _-_, _≤_}
 use mathlib.Core.Path.{_≡_, refl, sym, ap, ap₂, subst, subst₂, _∙_}
-use mathlib.Core.Bool.{Bool, true, false, cond, not, _&&_, _||_}
+use mathlib.Core.Bool.{Bool, true, false, cond, not, _&&_}
 use mathlib.Core.Option.{Option, none, some}
-use mathlib.Core.Logic.{_⊎_, inl, inr}
 use mathlib.Core.List.{List, [], _∷_, List·Memᴰ}
 use native.Mathlib.Omega.{arith}
-use lib.Dec.{leb, ltb, eqb}
-use lib.ListN.{length, length-map}
+use lib.Dec.{eqb}
+use lib.ListN.{getD, length, length-map}
 use borrow.Author.Tests.{le-leb, le-ltb, eq-eqb, ne-eqb}
-use Rattle.octets.specs.Lists.{at}
 use Rattle.reading.proofs.EveryLaws.{and-both}
-use Rattle.table.specs.Table.{lanes, emptyTable}
+use Rattle.table.specs.Table.{lanes, noEntry, emptyTable}
 use Rattle.table.proofs.OrderLaws.{clash}
 use Rattle.table.specs.declared.Table.{Table}
 use Rattle.sealed.specs.Aead.{aesGcm}
@@ -22,28 +20,29 @@ use Rattle.sealed.proofs.LogTrip.{version-is}
 use Rattle.protocol.specs.Vaults.{vaultOk}
 use Rattle.protocol.specs.States.{listed, pointsMax, valid, isNothing}
 use Rattle.protocol.specs.Said.{Said, refused, taken, Answered, refuse}
-use Rattle.protocol.specs.Load.{keyLen, loaded, load}
+use Rattle.protocol.specs.Load.{keyLen, load}
 use Rattle.protocol.specs.Truncate.{pointsOf}
-use Rattle.protocol.specs.Replay.{Read, stopped, reading, replay}
+use Rattle.protocol.specs.Replay.{Read, stopped, reading}
 use Rattle.protocol.specs.Recover.{logMax, spent, recovered, recoverRead, recoverLog, recoverFile, otherVersion, recoverFrom, recoverFirst, recoverDue, recoverPhase, recover, inService}
 use Rattle.protocol.specs.Book.{bookTable}
-use Rattle.protocol.specs.History.{Card, Event, call, Call, callRecover, World, newWorld, Lasting, settled, done, bookAfter, afterSaid, afterAnswer, answer, answerOf, addsOf, next, run, isTaken, Honest, Premises, withSealings, faithfulLog, FaithfulFile}
-use Rattle.protocol.specs.Claim.{NotLower, after, Listed, TableIsTheBooks, FaithfulCardIsTaken, LoadIsTaken, CardHasAFile, LogIsShort, NoStoreLowers, TruncatesNine, Claim, Beside, Demand3}
+use Rattle.protocol.specs.LatestOf.{LatestOf}
+use Rattle.protocol.specs.History.{Event, call, callRecover, World, newWorld, Lasting, settled, done, bookAfter, afterSaid, afterAnswer, answer, answerOf, addsOf, next, isTaken, faithfulLog, FaithfulFile}
+use Rattle.protocol.specs.Claim.{NotLower, after, Listed, TableIsTheBooks, FaithfulCardIsTaken, LoadIsTaken, CardHasAFile, BookIsLatest, LogIsShort, NoStoreLowers, TruncatesNine, Beside, Demand3}
 use Rattle.protocol.specs.declared.Vault.{Vault}
 use Rattle.protocol.specs.declared.State.{State}
 use Rattle.protocol.specs.declared.Phase.{Phase}
 use Rattle.protocol.specs.declared.Phase.the-variants as F
 use Rattle.protocol.specs.declared.Due.{Due}
 use Rattle.protocol.specs.declared.Due.the-variants as D
-use Rattle.protocol.specs.declared.Store.{Store}
 use Rattle.protocol.specs.declared.Store.the-variants as S
 use Rattle.protocol.proofs.VaultLaws.{vault-fine, fine-vault, fine-state}
 use Rattle.protocol.proofs.Basis.{Writable, fileOf, file-opens}
-use Rattle.protocol.proofs.Latest.{In, Single, Full, full-book}
+use Rattle.protocol.proofs.Latest.{In, Full, full-book}
+use Rattle.protocol.proofs.BookLaws.{book-latest}
 use Rattle.protocol.proofs.LaidLaws.{laidOut, laid-length}
 use Rattle.protocol.proofs.Card.{Spot, recsOf, mem-recs}
 use Rattle.protocol.proofs.Faith.{read-faithful}
-use Rattle.protocol.proofs.Invariant.{Durable, vaultTo, Durably, Cold, Service, LinkedAt, Linked, LinkedIf, Apart, Invariant, GoodSaid, GoodAnswer, known, carried, bookedTo, At}
+use Rattle.protocol.proofs.Invariant.{Durable, vaultTo, Durably, Cold, Service, LinkedAt, Linked, LinkedIf, Apart, Invariant, GoodSaid, known, At}
 use Rattle.protocol.proofs.KeepTruncate.{found-in}
 use Rattle.protocol.proofs.TallyLaws.{truncate-tally}
 use Rattle.protocol.proofs.Apart.{mem-map, map-mem, faithful-log}
@@ -266,6 +265,12 @@ module _ (key : List ℕ) where
   pub files : CardHasAFile key
   files es p = let i = listed-invariant es p in has-file (settled (after key es) .vault .s) (i .after) (settled (after key es)) (ap (λ (x : Vault). x .s) (sym (i .apart′ .vault))) (i .then) (i .apart′)
 
+  pub latest : BookIsLatest key
+  latest es p m h =
+      let i = listed-invariant es p in
+      let d = i .after in
+      subst (λ (b : List Opened). LatestOf b m (getD (bookTable b .entries) m noEntry)) (sym (i .apart′ .book)) (book-latest (d .book) (λ r k. i .then .sealed .fine r (i .then .book .known r k)) m h)
+
   pub short : LogIsShort key
   short es p =
       let i = listed-invariant es p in
@@ -313,4 +318,4 @@ pub demand-3 : Demand3
 demand-3 key long = record { table-is-the-books = safe key; faithful-card-is-taken = live key; load-is-taken = loads key long; card-has-a-file = files key }
 
 pub beside : (key : List ℕ) → Beside key
-beside key = record { log-is-short = short key; no-store-lowers = rises key; truncates-nine = nine key }
+beside key = record { book-is-latest = latest key; log-is-short = short key; no-store-lowers = rises key; truncates-nine = nine key }

@@ -2,7 +2,6 @@
 -- writes to it in the book: the write's code and reading, with the stamp, lane and number of its transaction. A meter without a write has no
 -- reading." The book is a list of opened records; their epochs play no part in its table.
 -- Assumes nothing.
-use Prim.Native.Nat.{ℕ}
 use mathlib.Core.List.{List, [], _∷_}
 use Rattle.table.specs.declared.Table.{Table}
 use Rattle.table.specs.Table.{emptyTable, entered}

@@ -1,19 +1,22 @@
 -- Demand 3, as 01's section on the list, the book and the card has it: one claim about the whole list (Claim), and what is said beside it
 -- (Beside). The proofs are in proofs/Theorem.antt.
 -- Assumes nothing.
-use Prim.Native.Nat.{ℕ, suc, _≤_}
+use Prim.Native.Nat.{ℕ, suc, _≤_, _<_}
 use mathlib.Core.Path.{_≡_}
-use mathlib.Core.Bool.{Bool, true, cond}
+use mathlib.Core.Bool.{true, cond}
 use mathlib.Core.List.{List, []}
-use mathlib.Core.Option.{Option, some}
-use lib.ListN.{length}
+use mathlib.Core.Option.{some}
+use lib.ListN.{length, getD}
 use Rattle.protocol.specs.Said.{refused, taken}
 use Rattle.octets.specs.Lists.{at}
+use Rattle.reading.specs.Transaction.{meters}
+use Rattle.table.specs.Table.{noEntry}
 use Rattle.protocol.specs.Load.{keyLen, load}
 use Rattle.protocol.specs.Truncate.{pointsOf, findPoint, truncate}
 use Rattle.protocol.specs.Recover.{spent, recover}
 use Rattle.protocol.specs.Tally.{truncateStores, Names, Dropped}
 use Rattle.protocol.specs.Book.{bookTable}
+use Rattle.protocol.specs.LatestOf.{LatestOf}
 use Rattle.protocol.specs.History.{Call, Event, call, callRecover, World, newWorld, settled, next, run, isTaken, Honest, Premises, faithfulLog, FaithfulFile}
 use Rattle.protocol.specs.declared.Vault.{Vault}
 use Rattle.protocol.specs.declared.Point.{Point}
@@ -76,6 +79,10 @@ module _ (key : List ℕ) where
 
   -- ---- beside it
 
+  -- the book's table has for each meter the latest of all writes to it in the book
+  abbrev pub BookIsLatest : Type 0
+  BookIsLatest = (es : List Event) → Listed es → (m : ℕ) → m < meters → LatestOf (settled (after es) .book) m (getD (bookTable (settled (after es) .book) .entries) m noEntry)
+
   -- a faithful log is at most 9 · 128 records of at most 176 bytes
   abbrev pub LogIsShort : Type 0
   LogIsShort = (es : List Event) → Listed es → length (faithfulLog (settled (after es) .card)) ≤ 202752
@@ -90,6 +97,7 @@ module _ (key : List ℕ) where
       → findPoint position (pointsOf (c .points)) ≡ some p → p .covered ≡ true → Names (λ d. truncate d position) c (truncateStores p) (Dropped c position)
 
   pub record Beside : Type 0 where
+    pub book-is-latest : BookIsLatest
     pub log-is-short : LogIsShort
     pub no-store-lowers : NoStoreLowers
     pub truncates-nine : TruncatesNine

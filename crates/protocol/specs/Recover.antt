@@ -3,7 +3,7 @@
 -- V = W for lanes 0 to 7; empty the log. That makes 15 or 24. Then it is in service with no point and no position used."
 -- "Recover takes 1, 3, 8, then the checkpoint (9, 12), then record by record (9, 10, 11), then 13." The call that accepts names the first N.
 -- Assumes nothing.
-use Prim.Native.Nat.{ℕ, zero, suc, _+_}
+use Prim.Native.Nat.{ℕ, suc, _+_}
 use mathlib.Core.Bool.{Bool, true, false, cond, not, _&&_, _||_}
 use mathlib.Core.List.{List, [], _∷_}
 use mathlib.Core.Option.{Option, some, none}

@@ -10,7 +10,6 @@ use Rattle.protocol.specs.declared.Refusal.{Refusal}
 use Rattle.protocol.specs.declared.Refusal.the-variants as R
 use Rattle.protocol.specs.declared.Outcome.{Outcome}
 use Rattle.protocol.specs.declared.Outcome.the-variants as O
-use Rattle.protocol.specs.declared.Answer.{Answer}
 
 -- the number, and the values returned with it; or the store that is named, and how many bytes are put out
 pub data Said : Type 0 where

@@ -1,13 +1,12 @@
 -- The state: what stands in it at first, and 01's rule for a handed one.
 -- Assumes nothing.
-use Prim.Native.Nat.{ℕ, suc}
-use mathlib.Core.Bool.{Bool, true, false, cond, _&&_}
+use Prim.Native.Nat.{ℕ}
+use mathlib.Core.Bool.{Bool, true, false, _&&_}
 use mathlib.Core.List.{List}
-use lib.Dec.{leb, ltb}
+use lib.Dec.{leb}
 use lib.ListN.{take, replicate}
 use Rattle.reading.specs.Transaction.{maxText}
 use Rattle.table.specs.Table.{lanes}
-use Rattle.table.specs.declared.Table.{Table}
 use Rattle.protocol.specs.Vaults.{vaultOk}
 use Rattle.protocol.specs.declared.Vault.{Vault}
 use Rattle.protocol.specs.declared.Phase.{Phase}

@@ -1,11 +1,10 @@
 -- 01, Vault and stores: "The vault holds 27 unsigned 64-bit numbers, all zero when new: for each lane 0 to 7 a W (numbers handed out), V
 -- (numbers visible), R (numbers truncated); one epoch E; one checkpoint version S; one checkpoint seal number N. None exceeds 2^48 − 1."
 -- Assumes nothing.
-use Prim.Native.Nat.{ℕ, zero, suc, _-_, _^_}
-use mathlib.Core.Bool.{Bool, true, _&&_, _||_}
-use mathlib.Core.List.{List}
+use Prim.Native.Nat.{ℕ, _-_, _^_}
+use mathlib.Core.Bool.{Bool, _&&_, _||_}
 use lib.Dec.{leb, eqb}
-use lib.ListN.{getD, set, replicate}
+use lib.ListN.{set, replicate}
 use Rattle.octets.specs.Lists.{at}
 use Rattle.reading.specs.Every.{allBelow}
 use Rattle.table.specs.Table.{lanes}
