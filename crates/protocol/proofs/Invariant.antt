@@ -152,7 +152,7 @@ pub record Carded (v r : List ℕ) (sealed : List Opened) (spots : List Spot) : 
   pub reach : (l : ℕ) → at r l < at v l → (at v l ≤ top l) × (top l ≤ at r l + cnt l spots)
   pub known : (p : Spot) → SpotIn spots p → In sealed (p .rec)
   pub rising : Rising spots
-  pub few : length spots ≤ 9 * listed
+  pub few : length spots ≤ (pointsMax + 1) * listed
 
 pub record CardFiled (s : ℕ) (files cards : List OpenedFile) : Type 0 where
   pub known : (f : OpenedFile) → FileIn cards f → FileIn files f

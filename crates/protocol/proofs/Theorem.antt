@@ -19,15 +19,15 @@ use Rattle.sealed.specs.Checkpoint.{OpenedFile, versionOf, openFile}
 use Rattle.sealed.proofs.LogTrip.{version-is}
 use Rattle.protocol.specs.Vaults.{vaultOk}
 use Rattle.protocol.specs.States.{listed, pointsMax, valid, isNothing}
-use Rattle.protocol.specs.Said.{Said, refused, taken, Answered, refuse}
-use Rattle.protocol.specs.Load.{keyLen, load}
+use Rattle.protocol.specs.Said.{Said, refused, taken, Answered, refuse, taking}
+use Rattle.protocol.specs.Load.{keyLen, loaded, load}
 use Rattle.protocol.specs.Truncate.{pointsOf}
 use Rattle.protocol.specs.Replay.{Read, stopped, reading}
 use Rattle.protocol.specs.Recover.{logMax, spent, recovered, recoverRead, recoverLog, recoverFile, otherVersion, recoverFrom, recoverFirst, recoverDue, recoverPhase, recover, inService}
 use Rattle.protocol.specs.Book.{bookTable}
 use Rattle.protocol.specs.LatestOf.{LatestOf}
 use Rattle.protocol.specs.History.{Event, call, callRecover, World, newWorld, Lasting, settled, done, bookAfter, afterSaid, afterAnswer, answer, answerOf, addsOf, next, isTaken, faithfulLog, FaithfulFile}
-use Rattle.protocol.specs.Claim.{NotLower, after, Listed, TableIsTheBooks, FaithfulCardIsTaken, LoadIsTaken, CardHasAFile, BookIsLatest, LogIsShort, NoStoreLowers, TruncatesNine, Beside, Demand3}
+use Rattle.protocol.specs.Claim.{NotLower, longestLog, after, Listed, TableIsTheBooks, FaithfulCardIsTaken, LoadIsTaken, CardHasAFile, BookIsLatest, LogIsShort, NoStoreLowers, TruncatesNine, Beside, Demand3}
 use Rattle.protocol.specs.declared.Vault.{Vault}
 use Rattle.protocol.specs.declared.State.{State}
 use Rattle.protocol.specs.declared.Phase.{Phase}
@@ -204,7 +204,7 @@ module _ (key : List ℕ) where
   unfolding valid
   cold-valid c v k = and-both (and-both (and-both v (le-leb (c .journal .count) listed (omega (arith, k .listed-none)))) (le-leb (c .points .count) pointsMax (omega (arith, k .pointed-none)))) (rw (k .due))
 
-  log-short : (d : Durable) → Durably d → length (laidOut key (recsOf (d .spots))) ≤ 202752
+  log-short : (d : Durable) → Durably d → length (laidOut key (recsOf (d .spots))) ≤ longestLog
   log-short d i =
       let l = laid-length key (recsOf (d .spots)) (λ r m. let s = mem-recs (d .spots) r m in subst Writable (sym (s .2)) (i .sealed .fine (s .0 .rec) (i .card .known (s .0) (s .1)))) in
       let n = length-map (d .spots) (λ (s : Spot). s .rec) in
@@ -239,7 +239,7 @@ module _ (key : List ℕ) where
 
   -- ---- Load, the file, the length
 
-  load-at : (x : Vault) → length key ≡ keyLen → vaultOk x ≡ true → load x key .said ≡ taken S.Nothing 0
+  load-at : (x : Vault) → length key ≡ keyLen → vaultOk x ≡ true → load x key ≡ taking (loaded x key) S.Nothing []
   unfolding load refuse
   load-at x long v = rw (v, eq-eqb (length key) keyLen long)
 
@@ -274,7 +274,7 @@ module _ (key : List ℕ) where
   pub short : LogIsShort key
   short es p =
       let i = listed-invariant es p in
-      subst (λ (x : List ℕ). length x ≤ 202752) (sym (faithful-log key (settled (after key es)) (i .after) (i .apart′) (i .then .card .rising))) (log-short (i .after) (i .then))
+      subst (λ (x : List ℕ). length x ≤ longestLog) (sym (faithful-log key (settled (after key es)) (i .after) (i .apart′) (i .then .card .rising))) (log-short (i .after) (i .then))
 
   -- ---- no store lowers a vault number
 
@@ -311,6 +311,10 @@ module _ (key : List ℕ) where
       let s : Service key c d D.Nothing = subst₂ (LinkedAt key c d) ph du (l .rest) in
       let o = s .common .pointed x (found-in position (pointsOf (c .points)) x f .0) in
       truncate-tally c position x (service-valid c d (i .then) (l .same) s) ph du f cv (λ k h. o .visible k)
+
+-- the longest log, in figures
+pub longest-is : longestLog ≡ 202752
+longest-is = refl
 
 -- ---- DEMAND 3
 

@@ -1,17 +1,19 @@
 -- Demand 3, as 01's section on the list, the book and the card has it: one claim about the whole list (Claim), and what is said beside it
 -- (Beside). The proofs are in proofs/Theorem.antt.
 -- Assumes nothing.
-use Prim.Native.Nat.{ℕ, suc, _≤_, _<_}
+use Prim.Native.Nat.{ℕ, suc, _+_, _*_, _≤_, _<_}
 use mathlib.Core.Path.{_≡_}
 use mathlib.Core.Bool.{true, cond}
 use mathlib.Core.List.{List, []}
 use mathlib.Core.Option.{some}
 use lib.ListN.{length, getD}
-use Rattle.protocol.specs.Said.{refused, taken}
+use Rattle.sealed.specs.Frame.{frameLen}
+use Rattle.protocol.specs.States.{listed, pointsMax}
+use Rattle.protocol.specs.Said.{refused, taken, taking}
 use Rattle.octets.specs.Lists.{at}
-use Rattle.reading.specs.Transaction.{meters}
+use Rattle.reading.specs.Transaction.{maxText, meters}
 use Rattle.table.specs.Table.{noEntry}
-use Rattle.protocol.specs.Load.{keyLen, load}
+use Rattle.protocol.specs.Load.{keyLen, loaded, load}
 use Rattle.protocol.specs.Truncate.{pointsOf, findPoint, truncate}
 use Rattle.protocol.specs.Recover.{spent, recover}
 use Rattle.protocol.specs.Tally.{truncateStores, Names, Dropped}
@@ -40,6 +42,10 @@ NotLower x S.File = Unit {0}
 NotLower x (S.Delete p) = Unit {0}
 NotLower x S.Empty = Unit {0}
 
+-- 128 records from each of 8 points on and 128 before the first, each of the longest
+abbrev pub longestLog : ℕ
+longestLog = (pointsMax + 1) * listed * (maxText + frameLen)
+
 module _ (key : List ℕ) where
   -- what a list comes to, from a new vault and no state
   abbrev pub after : List Event → World
@@ -65,7 +71,7 @@ module _ (key : List ℕ) where
 
   -- Load takes the vault's numbers after any list, and hands back a cold collector
   abbrev pub LoadIsTaken : Type 0
-  LoadIsTaken = (es : List Event) → Listed es → load (settled (after es) .vault) key .said ≡ taken S.Nothing 0
+  LoadIsTaken = (es : List Event) → Listed es → load (settled (after es) .vault) key ≡ taking (loaded (settled (after es) .vault) key) S.Nothing []
 
   -- the card that kept faith has a file of version S where S > 0
   abbrev pub CardHasAFile : Type 0
@@ -83,9 +89,9 @@ module _ (key : List ℕ) where
   abbrev pub BookIsLatest : Type 0
   BookIsLatest = (es : List Event) → Listed es → (m : ℕ) → m < meters → LatestOf (settled (after es) .book) m (getD (bookTable (settled (after es) .book) .entries) m noEntry)
 
-  -- a faithful log is at most 9 · 128 records of at most 176 bytes
+  -- a faithful log is at most as long as the longest: 202,752 of 262,144 bytes
   abbrev pub LogIsShort : Type 0
-  LogIsShort = (es : List Event) → Listed es → length (faithfulLog (settled (after es) .card)) ≤ 202752
+  LogIsShort = (es : List Event) → Listed es → length (faithfulLog (settled (after es) .card)) ≤ longestLog
 
   -- the vault's numbers only rise: no store that a call names lowers one
   abbrev pub NoStoreLowers : Type 0
