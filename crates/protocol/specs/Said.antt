@@ -10,6 +10,7 @@ use Rattle.protocol.specs.declared.Refusal.{Refusal}
 use Rattle.protocol.specs.declared.Refusal.the-variants as R
 use Rattle.protocol.specs.declared.Outcome.{Outcome}
 use Rattle.protocol.specs.declared.Outcome.the-variants as O
+use Rattle.protocol.specs.declared.Answer.{Answer}
 
 -- the number, and the values returned with it; or the store that is named, and how many bytes are put out
 pub data Said : Type 0 where
@@ -72,3 +73,7 @@ valuesOf R.Unseen = []
 unfoldable pub shown : Outcome → Said
 shown (O.Taken st n) = taken st n
 shown (O.Refused why) = refused (numberOf why) (valuesOf why)
+
+-- an answer of the code, where put are the bytes that it put out at the start of the lent buffer
+unfoldable pub shownAs : Answer → List ℕ → Answered
+shownAs r put = record { state = r .state; said = shown (r .outcome); put = put }
