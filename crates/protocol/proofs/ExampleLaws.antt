@@ -1,0 +1,413 @@
+-- The list of specs/Example.antt keeps to the premises and leaves a cold collector with one visible record; of it the honest card is taken, and
+-- the hostile ones are turned down. So neither half of demand 3 is about nothing. The list is followed event by event, from one world written out
+-- to the next, and each step is a computation; what was sealed is never computed, but opens by the round trips of Basis and LaidLaws.
+-- Assumes nothing.
+use Prim.Native.Nat.{ℕ, zero, suc, _+_, _≤_, _<_}
+use mathlib.Core.Path.{_≡_, refl, sym, ap, subst, _∙_}
+use mathlib.Core.Bool.{Bool, true, false, _&&_}
+use mathlib.Core.List.{List, [], _∷_, _++_, append-nil, List·Memᴰ, List·Memᴰ·head, List·Memᴰ·tail, List·Memᴰ·not-nil, List·Memᴰ·cases-cons}
+use mathlib.Core.Option.{Option, some, none}
+use mathlib.Core.Logic.{_⊎_, inl, inr}
+use native.Mathlib.Omega.{arith}
+use borrow.Author.Tests.{ltb-true, le-ltb}
+use lib.Dec.{ltb, lit<}
+use lib.ListN.{length, getD, replicate, take, drop, length-take, length-drop, length-append}
+use lib.Seq.{take-all}
+use Rattle.octets.specs.Lists.{at}
+use Rattle.octets.specs.Bytes.{padded}
+use Rattle.octets.specs.Little.{little}
+use Rattle.octets.proofs.BoolLaws.{and-left, and-right}
+use Rattle.reading.specs.Every.{allBelow}
+use Rattle.reading.specs.Signed.{signedOf}
+use Rattle.reading.specs.Transaction.{legal, sized, writeCount, stampOf, writeAt, writeIn, lowest, legalWrite}
+use Rattle.table.specs.declared.Table.{Table}
+use Rattle.table.specs.Order.{latest}
+use Rattle.table.specs.Table.{lanes, noEntry, emptyTable, entryOf, entryAt, put, putTo, entered}
+use Rattle.table.proofs.EnteredLaws.{empty-canonical}
+use Rattle.sealed.specs.Aead.{aesGcm}
+use Rattle.sealed.specs.Record.{Opened, recordKind, wholeLen, openRecord}
+use Rattle.sealed.specs.Checkpoint.{OpenedFile, fileKind, legalFile, openFile}
+use Rattle.sealed.proofs.RecordTrip.{opens-legal, length-record}
+use Rattle.sealed.proofs.LogTrip.{version-is}
+use Rattle.protocol.specs.Vaults.{newVault, laneOk, vaultOk}
+use Rattle.protocol.specs.States.{noJournal, noPoints, noHeld, valid, ready}
+use Rattle.protocol.specs.Said.{refused, taken, Answered, refusing, taking, refuse}
+use Rattle.protocol.specs.Load.{loaded, load}
+use Rattle.protocol.specs.Accept.{tooLow, listedMore, holding, accepted, accept, heldRecord, holds, seal}
+use Rattle.protocol.specs.Commit.{committed, commitOpened, commit, outOfTurn}
+use Rattle.protocol.specs.Checkpoint.{tableFile}
+use Rattle.protocol.specs.Replay.{stopped, reading, passedOver, orStop, behind, stepOpened, steps, missingFrom, orMissing, ended, replay}
+use Rattle.protocol.specs.Recover.{logMax, spent, recovered, recoverRead, recoverLog, recoverFile, recoverFrom, recoverFirst, afterVersion, allVisible, afterR, inService, recoverDue, recoverPhase, recover, otherVersion}
+use Rattle.protocol.specs.History.{Event, call, cut, callLoad, callRecover, callAccept, callSeal, callCommit, Placed, cardAfter, insertPlaced, inOrder, endToEnd, faithfulLog, FaithfulFile, vaultAfter, Sealing, Lasting, World, nothingPending, newLasting, newWorld, bookAfter, done, settled, sealedBy, withSealings, answerOf, firstAnswer, answer, addsOf, afterSaid, afterAnswer, next, run, PutOut, Honest, Premises}
+use Rattle.protocol.specs.Example.{text, shownEntry, onlyRecord, recordOf, olderFile, newerFile, doubledLog, lastVault, cold, fromEmpty, recovering, events}
+use Rattle.protocol.specs.declared.Vault.{Vault}
+use Rattle.protocol.specs.declared.Phase.the-variants as F
+use Rattle.protocol.specs.declared.Due.{Due}
+use Rattle.protocol.specs.declared.Due.the-variants as D
+use Rattle.protocol.specs.declared.Journal.{Journal}
+use Rattle.protocol.specs.declared.Held.{Held}
+use Rattle.protocol.specs.declared.State.{State}
+use Rattle.protocol.specs.declared.Store.{Store}
+use Rattle.protocol.specs.declared.Store.the-variants as S
+use Rattle.protocol.proofs.Basis.{Writable, opens, file-opens}
+use Rattle.protocol.proofs.LaidLaws.{AllWritable, laidOut, goOn, follow, replay-laid}
+
+-- ---- the transaction
+
+-- each number is below 256
+small : List ℕ → Bool
+small [] = true
+small (x ∷ xs) = ltb x 256 && small xs
+
+small-at : (s : List ℕ) → small s ≡ true → (i : ℕ) → at s i < 256
+unfolding small
+small-at [] e i = lit< tt
+small-at (x ∷ xs) e zero = ltb-true x 256 (and-left (ltb x 256) (small xs) e)
+small-at (x ∷ xs) e (suc i) = small-at xs (and-right (ltb x 256) (small xs) e) i
+
+text-bytes : (i : ℕ) → at text i < 256
+unfolding text small
+text-bytes = small-at text refl
+
+text-legal : legal text ≡ true
+unfolding text legal sized writeCount allBelow legalWrite writeAt writeIn lowest little padded
+text-legal = refl
+
+-- its record can be put out, and so can several of it
+only-writable : Writable onlyRecord
+unfolding onlyRecord
+only-writable = record { fine = text-legal; bytes = text-bytes; lane = lit< tt; number = omega arith; epoch = omega arith }
+
+no-writable : AllWritable []
+no-writable r m = absurd (List·Memᴰ·not-nil m)
+
+more-writable : {rs : List Opened} → AllWritable rs → AllWritable (onlyRecord ∷ rs)
+more-writable {rs} h r m = go (List·Memᴰ·cases-cons m)
+  where
+    go : (r ≡ onlyRecord) ⊎ List·Memᴰ r rs → Writable r
+    go (inl e) = rw e only-writable
+    go (inr k) = h r k
+
+-- ---- Load
+
+-- good numbers and a key of 16 bytes are taken
+load-taken : (x : Vault) (key : List ℕ) → vaultOk x ≡ true → length key ≡ 16 → load x key ≡ taking (loaded x key) S.Nothing []
+unfolding load refuse
+load-taken x key good long = rw (good, long)
+
+new-good : vaultOk newVault ≡ true
+unfolding newVault vaultOk laneOk allBelow
+new-good = refl
+
+last-good : vaultOk lastVault ≡ true
+unfolding lastVault vaultOk laneOk allBelow
+last-good = refl
+
+module _ (key : List ℕ) where
+  -- ---- lists that keep to the premises
+
+  -- from one world, events that keep to the premises come to another
+  record Goes (w : World) (es : List Event) (u : World) : Type 0 where
+    keeps : Premises key w es
+    ends : run key w es ≡ u
+
+  stay : {w : World} → Goes w [] w
+  unfolding run Premises
+  stay = record { keeps = tt; ends = refl }
+
+  -- one event, and then the others
+  by : {w : World} {e : Event} {es : List Event} {u : World} (v : World) → Honest key w e → next key w e ≡ v → Goes v es u → Goes w (e ∷ es) u
+  unfolding run Premises
+  by {es = es} v h p g = record { keeps = (h, rw p (g .keeps)); ends = ap (λ (x : World). run key x es) p ∙ g .ends }
+
+  -- a part of a log that opens has 56 bytes at least
+  part-long : (log : List ℕ) (i n : ℕ) (r : Opened) → openRecord (aesGcm key) (take n (drop i log)) ≡ some r → (i + 56 ≤ length log) × (56 ≤ n)
+  unfolding wholeLen
+  part-long log i n r e =
+      let is = opens-legal (aesGcm key) (take n (drop i log)) r e in
+      let low = is .low in
+      let whole = is .whole in
+      let t = length-take n (drop i log) in
+      let d = length-drop i log in
+      (omega arith, omega arith)
+
+  -- so an empty log has none that does
+  empty-log : (w : World) (i n : ℕ) (r : Opened) → openRecord (aesGcm key) (take n (drop i [])) ≡ some r → PutOut w (take n (drop i []))
+  empty-log w i n r e = let l = part-long [] i n r e .0 in absurd (omega arith)
+
+  empty-file : (f : OpenedFile) → openFile (aesGcm key) [] ≡ some f → ⊥
+  unfolding openFile legalFile
+  empty-file f e = let z : _≡_ {A = ℕ} 0 1 = cc in absurd (omega arith)
+
+  -- one call more of a recovery from an empty card, and then the others
+  by-empty : {w : World} {es : List Event} {u : World} (v : World) → next key w fromEmpty ≡ v → Goes v es u → Goes w (fromEmpty ∷ es) u
+  unfolding Honest
+  by-empty {w} v p g = by v (empty-log w, λ f e. absurd (empty-file f e)) p g
+
+  -- ---- the worlds on the way
+
+  -- W and V of lane 0, S and N; all else is 0
+  numbers : ℕ → ℕ → ℕ → ℕ → Vault
+  numbers w v s n = record { w = w ∷ replicate 7 0; v = v ∷ replicate 7 0; r = replicate lanes 0; e = 0; s = s; n = n }
+
+  -- what was sealed
+  older : Sealing
+  older = record { kind = fileKind; lane = 0; number = 1; bytes = olderFile key }
+
+  newer : Sealing
+  newer = record { kind = fileKind; lane = 0; number = 2; bytes = newerFile key }
+
+  only : Sealing
+  only = record { kind = recordKind; lane = 0; number = 1; bytes = recordOf key }
+
+  -- the new collector, loaded
+  newOne : World
+  newOne = record { lasting = newLasting; pending = nothingPending; state = some (loaded newVault key) }
+
+  -- in the midst of the first recovery: numbers in the vault, files, sealings; the store that is pending; numbers in the state, the store due
+  midst : Vault → List (List ℕ) → List Sealing → Store → List ℕ → Vault → Due → World
+  midst x files sealings store bytes y due = record {
+    lasting = record { vault = x; card = record { records = []; files = files }; book = []; sealings = sealings };
+    pending = record { store = store; bytes = bytes; adds = none };
+    state = some (record { vault = y; phase = F.Recovering; due = due; table = emptyTable; journal = noJournal; points = noPoints; held = noHeld; key = key });
+  }
+
+  -- with both files stored, and S: R of the lanes
+  late : Store → Due → World
+  late st due = midst (numbers 0 0 2 2) (olderFile key ∷ newerFile key ∷ []) (newer ∷ older ∷ []) st [] (numbers 0 0 2 2) due
+
+  -- with both files on the card
+  lasts : Vault → List Placed → List Opened → List Sealing → Lasting
+  lasts x records book sealings = record { vault = x; card = record { records = records; files = olderFile key ∷ newerFile key ∷ [] }; book = book; sealings = sealings }
+
+  serves : Vault → Due → Table → Journal → Held → State
+  serves x due t j h = record { vault = x; phase = F.Serving; due = due; table = t; journal = j; points = noPoints; held = h; key = key }
+
+  -- in service; the log is about to be emptied
+  begun : World
+  begun = record {
+    lasting = lasts (numbers 0 0 2 2) [] [] (newer ∷ older ∷ []);
+    pending = record { store = S.Empty; bytes = []; adds = none };
+    state = some (serves (numbers 0 0 2 2) D.Nothing emptyTable noJournal noHeld);
+  }
+
+  -- the transaction is accepted
+  numbered : World
+  numbered = record {
+    lasting = lasts (numbers 0 0 2 2) [] [] (newer ∷ older ∷ []);
+    pending = record { store = S.W 0 1; bytes = []; adds = none };
+    state = some (serves (numbers 1 0 2 2) D.Record emptyTable (listedMore noJournal 0 10) (holding text 0 10));
+  }
+
+  -- its record is sealed
+  written : World
+  written = record {
+    lasting = lasts (numbers 1 0 2 2) [] [] (only ∷ newer ∷ older ∷ []);
+    pending = record { store = S.Record 10; bytes = recordOf key; adds = none };
+    state = some (serves (numbers 1 0 2 2) D.Nothing emptyTable (listedMore noJournal 0 10) (holding text 0 10));
+  }
+
+  -- it is committed
+  visible : World
+  visible = record {
+    lasting = lasts (numbers 1 0 2 2) (record { position = 10; bytes = recordOf key } ∷ []) [] (only ∷ newer ∷ older ∷ []);
+    pending = record { store = S.V 0 1; bytes = []; adds = some onlyRecord };
+    state = some (serves (numbers 1 1 2 2) D.Nothing (entered emptyTable text 0 1) (listedMore noJournal 0 10) (holding text 0 10));
+  }
+
+  -- it is cut, without a state or with the one that is loaded
+  final : Option State → World
+  final c = record {
+    lasting = lasts lastVault (record { position = 10; bytes = recordOf key } ∷ []) (onlyRecord ∷ []) (only ∷ newer ∷ older ∷ []);
+    pending = nothingPending;
+    state = c;
+  }
+
+  -- ---- from world to world
+
+  -- fifteen calls: N, a file, S; the same three again; R of the eight lanes; the log is emptied
+  go-recovering : {es : List Event} {u : World} → Goes begun es u → Goes newOne (recovering ++ es) u
+  unfolding newOne midst late lasts serves begun numbers older newer newLasting newVault loaded next answer answerOf addsOf afterAnswer afterSaid done cardAfter vaultAfter bookAfter withSealings sealedBy recover recoverPhase recoverFirst recoverFrom recoverLog recoverRead recovered recoverDue refuse valid vaultOk laneOk allBelow spent replay steps ended missingFrom orMissing afterVersion afterR allVisible inService tableFile
+  go-recovering g =
+      by-empty (midst (numbers 0 0 0 0) [] [] (S.N 1) [] (numbers 0 0 0 1) (D.RecoverFile false)) refl
+      (by-empty (midst (numbers 0 0 0 1) [] (older ∷ []) S.File (olderFile key) (numbers 0 0 0 1) (D.RecoverVersion false)) refl
+      (by-empty (midst (numbers 0 0 0 1) (olderFile key ∷ []) (older ∷ []) (S.S 1) [] (numbers 0 0 1 1) D.RecoverSeal) refl
+      (by-empty (midst (numbers 0 0 1 1) (olderFile key ∷ []) (older ∷ []) (S.N 2) [] (numbers 0 0 1 2) (D.RecoverFile true)) refl
+      (by-empty (midst (numbers 0 0 1 2) (olderFile key ∷ []) (newer ∷ older ∷ []) S.File (newerFile key) (numbers 0 0 1 2) (D.RecoverVersion true)) refl
+      (by-empty (midst (numbers 0 0 1 2) (olderFile key ∷ newerFile key ∷ []) (newer ∷ older ∷ []) (S.S 2) [] (numbers 0 0 2 2) (D.RecoverR 0)) refl
+      (by-empty (late (S.R 0 0) (D.RecoverR 1)) refl
+      (by-empty (late (S.R 1 0) (D.RecoverR 2)) refl
+      (by-empty (late (S.R 2 0) (D.RecoverR 3)) refl
+      (by-empty (late (S.R 3 0) (D.RecoverR 4)) refl
+      (by-empty (late (S.R 4 0) (D.RecoverR 5)) refl
+      (by-empty (late (S.R 5 0) (D.RecoverR 6)) refl
+      (by-empty (late (S.R 6 0) (D.RecoverR 7)) refl
+      (by-empty (late (S.R 7 0) D.RecoverEmpty) refl
+      (by-empty begun refl g))))))))))))))
+
+  go-accept : {es : List Event} {u : World} → Goes numbered es u → Goes begun (call (callAccept text 0 10) ∷ es) u
+  unfolding Honest lasts serves begun numbered numbers next answer answerOf addsOf afterAnswer afterSaid done cardAfter vaultAfter bookAfter withSealings sealedBy accept accepted ready valid vaultOk laneOk allBelow tooLow refuse
+  go-accept g = by numbered text-bytes (rw text-legal) g
+
+  go-seal : {es : List Event} {u : World} → Goes written es u → Goes numbered (call (callSeal 56) ∷ es) u
+  unfolding Honest lasts serves numbered written only numbers next answer answerOf addsOf afterAnswer afterSaid done cardAfter vaultAfter bookAfter withSealings sealedBy seal holds heldRecord valid vaultOk laneOk allBelow listedMore holding refuse text legal sized writeCount legalWrite writeAt writeIn lowest little padded
+  go-seal g = by written tt refl g
+
+  -- what was sealed opens
+  only-opens : openRecord (aesGcm key) (recordOf key) ≡ some onlyRecord
+  unfolding onlyRecord
+  only-opens = opens key onlyRecord only-writable
+
+  go-commit : {es : List Event} {u : World} → Goes visible es u → Goes written (call (callCommit (recordOf key)) ∷ es) u
+  unfolding Honest lasts serves written visible only numbers next answer answerOf addsOf afterAnswer afterSaid done cardAfter vaultAfter bookAfter withSealings sealedBy commit commitOpened outOfTurn committed onlyRecord ready valid vaultOk laneOk allBelow listedMore refuse
+  go-commit g = by visible (λ r e. List·Memᴰ·head refl) (rw only-opens) g
+
+  go-cut : {es : List Event} {u : World} → Goes (final none) es u → Goes visible (cut true ∷ es) u
+  unfolding Honest lasts visible final lastVault numbers next done cardAfter vaultAfter bookAfter
+  go-cut g = by (final none) tt refl g
+
+  go-load : length key ≡ 16 → Goes (final none) (call (callLoad lastVault key) ∷ []) (final (some (cold key)))
+  unfolding Honest lasts final cold next answer firstAnswer addsOf afterAnswer afterSaid done cardAfter vaultAfter bookAfter withSealings sealedBy
+  go-load long = by (final (some (cold key))) (λ e. (refl, refl)) (rw (load-taken lastVault key last-good long)) stay
+
+  go-all : length key ≡ 16 → Goes newWorld (events key) (final (some (cold key)))
+  unfolding Honest events newWorld newLasting newOne next answer firstAnswer addsOf afterAnswer afterSaid done cardAfter vaultAfter bookAfter withSealings sealedBy
+  go-all long =
+      by newOne (λ e. (refl, refl)) (rw (load-taken newVault key new-good long)) (go-recovering (go-accept (go-seal (go-commit (go-cut (go-load long))))))
+
+  -- ---- the list
+
+  -- it keeps to the premises
+  pub example-listed : length key ≡ 16 → Premises key newWorld (events key)
+  example-listed long = go-all long .keeps
+
+  -- and leaves this collector
+  pub example-cold : length key ≡ 16 → run key newWorld (events key) .state ≡ some (cold key)
+  unfolding final
+  example-cold long = ap (λ (w : World). w .state) (go-all long .ends)
+
+  -- which is cold, with one visible record above R in lane 0
+  pub cold-is : (cold key .phase ≡ F.Cold) × (cold key .vault ≡ lastVault)
+  unfolding cold loaded
+  cold-is = (refl, refl)
+
+  -- the honest card is the one that kept faith: it has the record, and a file of version S
+  pub honest-log : length key ≡ 16 → faithfulLog (settled (run key newWorld (events key)) .card) ≡ recordOf key
+  unfolding final lasts done cardAfter faithfulLog inOrder insertPlaced endToEnd
+  honest-log long = ap (λ (w : World). faithfulLog (settled w .card)) (go-all long .ends) ∙ append-nil (recordOf key)
+
+  pub honest-file : length key ≡ 16 → FaithfulFile (settled (run key newWorld (events key)) .vault .s) (settled (run key newWorld (events key)) .card) (newerFile key)
+  unfolding final lasts lastVault done cardAfter vaultAfter FaithfulFile
+  honest-file long =
+      subst (λ (w : World). FaithfulFile (settled w .vault .s) (settled w .card) (newerFile key)) (sym (go-all long .ends))
+      (List·Memᴰ·tail (List·Memᴰ·head refl), version-is (aesGcm key) 2 2 emptyTable (omega arith))
+
+  -- ---- the cards and the premises: whatever opens of these three was put out. Of the doubled record this is not claimed: its parts may begin
+  -- and end within the ciphertext.
+
+  record-long : length (recordOf key) ≡ 56
+  unfolding text
+  record-long = length-record key 0 0 1 text
+
+  -- a part of the record's bytes that opens is all of them
+  whole-record : (i n : ℕ) (r : Opened) → openRecord (aesGcm key) (take n (drop i (recordOf key))) ≡ some r → take n (drop i (recordOf key)) ≡ recordOf key
+  whole-record i n r e =
+      let l = record-long in
+      let p = part-long (recordOf key) i n r e in
+      let p0 = p .0 in
+      let p1 = p .1 in
+      let first : i ≡ 0 = omega arith in
+      rw first (take-all n (recordOf key) (omega arith))
+
+  record-parts : (c : Option State) (i n : ℕ) (r : Opened) → openRecord (aesGcm key) (take n (drop i (recordOf key))) ≡ some r → PutOut (final c) (take n (drop i (recordOf key)))
+  unfolding final lasts only
+  record-parts c i n r e = rw (whole-record i n r e) (List·Memᴰ·head refl)
+
+  fits : length key ≡ 16 → (e : Event) → Honest key (final (some (cold key))) e → Honest key (run key newWorld (events key)) e
+  fits long e h = subst (λ (w : World). Honest key w e) (sym (go-all long .ends)) h
+
+  pub honest-fits : length key ≡ 16 → (room : ℕ) → Honest key (run key newWorld (events key)) (call (callRecover (newerFile key) (recordOf key) room))
+  unfolding Honest final lasts newer
+  honest-fits long room = fits long (call (callRecover (newerFile key) (recordOf key) room)) (record-parts (some (cold key)), λ f e. List·Memᴰ·tail (List·Memᴰ·head refl))
+
+  pub empty-fits : length key ≡ 16 → (room : ℕ) → Honest key (run key newWorld (events key)) (call (callRecover (newerFile key) [] room))
+  unfolding Honest final lasts newer
+  empty-fits long room = fits long (call (callRecover (newerFile key) [] room)) (empty-log (final (some (cold key))), λ f e. List·Memᴰ·tail (List·Memᴰ·head refl))
+
+  pub old-fits : length key ≡ 16 → (room : ℕ) → Honest key (run key newWorld (events key)) (call (callRecover (olderFile key) (recordOf key) room))
+  unfolding Honest final lasts older
+  old-fits long room =
+      fits long (call (callRecover (olderFile key) (recordOf key) room)) (record-parts (some (cold key)), λ f e. List·Memᴰ·tail (List·Memᴰ·tail (List·Memᴰ·head refl)))
+
+  -- ---- what is said to the cards
+
+  newer-opens : openFile (aesGcm key) (newerFile key) ≡ some (record { version = 2; seal = 2; table = emptyTable })
+  newer-opens = file-opens key (record { version = 2; seal = 2; table = emptyTable }) (record { canonical = empty-canonical; version = omega arith; seal = omega arith })
+
+  older-opens : openFile (aesGcm key) (olderFile key) ≡ some (record { version = 1; seal = 1; table = emptyTable })
+  older-opens = file-opens key (record { version = 1; seal = 1; table = emptyTable }) (record { canonical = empty-canonical; version = omega arith; seal = omega arith })
+
+  -- with the newer file it is for the log to say
+  with-newer : (log : List ℕ) (room : ℕ) → length log ≤ logMax → recover (cold key) (newerFile key) log room ≡ recoverRead (cold key) (replay (aesGcm key) lastVault emptyTable log)
+  unfolding cold loaded lastVault recover recoverPhase recoverFirst recoverFrom recoverFile otherVersion recoverLog refuse valid vaultOk laneOk allBelow spent
+  with-newer log room h = rw (le-ltb logMax (length log) h, newer-opens)
+
+  with-older : (log : List ℕ) (room : ℕ) → length log ≤ logMax → recover (cold key) (olderFile key) log room ≡ refusing (cold key) 12 []
+  unfolding cold loaded lastVault recover recoverPhase recoverFirst recoverFrom recoverFile otherVersion refuse valid vaultOk laneOk allBelow spent
+  with-older log room h = rw (le-ltb logMax (length log) h, older-opens)
+
+  -- the record alone, and doubled, are records end to end
+  one-laid : laidOut key (onlyRecord ∷ []) ≡ recordOf key
+  unfolding laidOut onlyRecord
+  one-laid = append-nil (recordOf key)
+
+  two-laid : laidOut key (onlyRecord ∷ onlyRecord ∷ []) ≡ doubledLog key
+  unfolding laidOut onlyRecord
+  two-laid = ap (λ (s : List ℕ). recordOf key ++ s) (append-nil (recordOf key))
+
+  replay-one : replay (aesGcm key) lastVault emptyTable (recordOf key) ≡ reading (record { offset = 56; last = 1 ∷ replicate 7 0; table = entered emptyTable text 0 1 })
+  unfolding follow goOn stepOpened passedOver orStop behind ended missingFrom orMissing onlyRecord lastVault text
+  replay-one = ap (replay (aesGcm key) lastVault emptyTable) (sym one-laid) ∙ replay-laid key lastVault emptyTable (onlyRecord ∷ []) (more-writable no-writable)
+
+  replay-two : replay (aesGcm key) lastVault emptyTable (doubledLog key) ≡ stopped 11 (56 ∷ [])
+  unfolding follow goOn stepOpened passedOver orStop behind ended onlyRecord lastVault text
+  replay-two =
+      ap (replay (aesGcm key) lastVault emptyTable) (sym two-laid)
+      ∙ replay-laid key lastVault emptyTable (onlyRecord ∷ onlyRecord ∷ []) (more-writable (more-writable no-writable))
+
+  replay-none : replay (aesGcm key) lastVault emptyTable [] ≡ stopped 13 (0 ∷ [])
+  unfolding replay steps ended missingFrom orMissing lastVault
+  replay-none = refl
+
+  honest-answer : (room : ℕ) → recover (cold key) (newerFile key) (recordOf key) room ≡ taking (recovered (cold key) (entered emptyTable text 0 1)) (S.N 3) []
+  unfolding recoverRead cold loaded lastVault
+  honest-answer room = with-newer (recordOf key) room (let l = record-long in omega arith) ∙ ap (recoverRead (cold key)) replay-one
+
+  -- the honest card is taken, with the store of N, and its transaction is in the table
+  pub honest-taken : (room : ℕ)
+      → (recover (cold key) (newerFile key) (recordOf key) room .said ≡ taken (S.N 3) 0)
+      × (recover (cold key) (newerFile key) (recordOf key) room .state .table ≡ entered emptyTable text 0 1)
+  unfolding recovered
+  honest-taken room = (ap (λ (a : Answered). a .said) (honest-answer room), ap (λ (a : Answered). a .state .table) (honest-answer room))
+
+  -- the record left out
+  pub hostile-empty : (room : ℕ) → recover (cold key) (newerFile key) [] room .said ≡ refused 13 (0 ∷ [])
+  unfolding recoverRead
+  hostile-empty room = ap (λ (a : Answered). a .said) (with-newer [] room (omega arith) ∙ ap (recoverRead (cold key)) replay-none)
+
+  -- the record doubled
+  pub hostile-doubled : (room : ℕ) → recover (cold key) (newerFile key) (doubledLog key) room .said ≡ refused 11 (56 ∷ [])
+  unfolding recoverRead
+  hostile-doubled room =
+      let l = record-long in
+      let d = length-append (recordOf key) (recordOf key) in
+      ap (λ (a : Answered). a .said) (with-newer (doubledLog key) room (omega arith) ∙ ap (recoverRead (cold key)) replay-two)
+
+  -- the older file
+  pub hostile-old : (room : ℕ) → recover (cold key) (olderFile key) (recordOf key) room .said ≡ refused 12 []
+  hostile-old room = ap (λ (a : Answered). a .said) (with-older (recordOf key) room (let l = record-long in omega arith))
+
+-- the meter then shows the reading
+pub reading-shown : getD (entered emptyTable text 0 1 .entries) 1 noEntry ≡ shownEntry
+unfolding text entered putTo put emptyTable writeCount writeAt writeIn entryAt entryOf stampOf latest little padded signedOf
+reading-shown = refl
