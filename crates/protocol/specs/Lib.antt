@@ -2,7 +2,7 @@
 -- Vaults: the 27 numbers. States: the state, and the rule for a handed one. Said: what a call answers, in 01's numbers.
 -- Load, Accept (with Seal), Commit, Point, Checkpoint, Truncate, Replay (the log rules), Recover: the operations.
 -- Tally: the stores of the longer operations, in order. Book, LatestOf: the book and its table. History: the list, the card and the premises.
--- Claim: demand 3. Example: a list with an honest card and hostile ones. Sheet: the bench sheet.
+-- Claim: demand 3. Worked: a list with an honest card and hostile ones. Sheet: the bench sheet.
 pub mod Vaults
 pub mod States
 pub mod Said
@@ -19,5 +19,5 @@ pub mod Book
 pub mod LatestOf
 pub mod History
 pub mod Claim
-pub mod Example
+pub mod Worked
 pub mod Sheet

@@ -1,4 +1,4 @@
--- The list of specs/Example.antt keeps to the premises and leaves a cold collector with one visible record; of it the honest card is taken, and
+-- The list of specs/Worked.antt keeps to the premises and leaves a cold collector with one visible record; of it the honest card is taken, and
 -- the hostile ones are turned down. So neither half of demand 3 is about nothing. The list is followed event by event, from one world written out
 -- to the next, and each step is a computation; what was sealed is never computed, but opens by the round trips of Basis and LaidLaws.
 -- Assumes nothing.
@@ -39,7 +39,7 @@ use Rattle.protocol.specs.Checkpoint.{tableFile}
 use Rattle.protocol.specs.Replay.{stopped, reading, passedOver, orStop, behind, stepOpened, steps, missingFrom, orMissing, ended, replay}
 use Rattle.protocol.specs.Recover.{logMax, spent, recovered, recoverRead, recoverLog, recoverFile, recoverFrom, recoverFirst, afterVersion, allVisible, afterR, inService, recoverDue, recoverPhase, recover, otherVersion}
 use Rattle.protocol.specs.History.{Event, call, cut, callLoad, callRecover, callAccept, callSeal, callCommit, Placed, cardAfter, insertPlaced, inOrder, endToEnd, faithfulLog, FaithfulFile, vaultAfter, Sealing, Lasting, World, nothingPending, newLasting, newWorld, bookAfter, done, settled, sealedBy, withSealings, answerOf, firstAnswer, answer, addsOf, afterSaid, afterAnswer, next, run, PutOut, Honest, Premises}
-use Rattle.protocol.specs.Example.{text, shownEntry, onlyRecord, recordOf, olderFile, newerFile, doubledLog, lastVault, cold, fromEmpty, recovering, events}
+use Rattle.protocol.specs.Worked.{text, shownEntry, onlyRecord, recordOf, olderFile, newerFile, doubledLog, lastVault, cold, fromEmpty, recovering, events}
 use Rattle.protocol.specs.declared.Vault.{Vault}
 use Rattle.protocol.specs.declared.Phase.the-variants as F
 use Rattle.protocol.specs.declared.Due.{Due}
