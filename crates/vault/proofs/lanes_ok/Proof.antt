@@ -27,7 +27,7 @@ loop-holds c = (omega arith, sym (all-none _))
 loop-again : tie.Need-loop-again Inv-loop μ-loop
 loop-again c =
     let step = all-more (keeps (c .before .before .before .before .before .before .args .x)) (c .before .before .before .before .before .loop .lane) in
-    (omega arith, cc)
+    (omega arith, rw (c .lane-ok .ensures, c .before .r-at .ensures, c .before .before .v-at .ensures, c .before .before .before .w-at .ensures, c .before .before .before .before .before .loop .inv .1) step)
 
 returns : tie.Need-returns Inv-loop μ-loop
 returns c = let h : c .before .loop .lane ≡ 8 = omega arith in cc

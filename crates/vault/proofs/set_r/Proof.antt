@@ -4,7 +4,7 @@ use Rattle.vault.proofs.set_r.Statement.{statement}
 use Rattle.vault.proofs.set_r.Tie as tie
 
 returns : tie.Need-returns
-returns c = cc
+returns c = rw (c .lane-set .ensures)
 
 pub set-r-spec : {M : Type 1} → statement M
 set-r-spec = tie.close (tie.spec (λ c κs. search needs) returns)

@@ -4,7 +4,7 @@ use Rattle.vault.proofs.set_w.Statement.{statement}
 use Rattle.vault.proofs.set_w.Tie as tie
 
 returns : tie.Need-returns
-returns c = cc
+returns c = rw (c .lane-set .ensures)
 
 pub set-w-spec : {M : Type 1} → statement M
 set-w-spec = tie.close (tie.spec (λ c κs. search needs) returns)

@@ -6,7 +6,7 @@ use Rattle.vault.proofs.vault_ok.Tie as tie
 
 returns : tie.Need-returns
 unfolding vaultOk
-returns c = cc
+returns c = rw (c .before .before .before .lanes-ok .ensures)
 
 pub vault-ok-spec : {M : Type 1} → statement M
 vault-ok-spec = tie.close (tie.spec (λ c κs. search needs) returns)
