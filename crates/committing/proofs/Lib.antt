@@ -1,0 +1,2 @@
+-- PathLaws: each way out of Commit is the definition's.
+pub mod PathLaws
