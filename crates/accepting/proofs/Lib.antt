@@ -1,0 +1,2 @@
+-- PathLaws: what Accept and Seal answer on each of their ways out.
+pub mod PathLaws
