@@ -1,0 +1,2 @@
+-- BackLaws: what a method hands back.
+pub mod BackLaws

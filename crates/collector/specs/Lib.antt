@@ -1,0 +1,2 @@
+-- Back: an answer, and what a method hands back.
+pub mod Back
