@@ -1,2 +1,3 @@
--- What the code does beyond the definitions of the operations.
+-- What the code does beyond the definitions of the operations, and what it counts on its way.
 pub mod Beyond
+pub mod Less

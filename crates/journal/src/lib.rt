@@ -13,6 +13,8 @@ use protocol::Point;
 use protocol::Points;
 use reading::MAX_TEXT;
 
+pub mod marks;
+
 // The most records listed at or above the newest point.
 pub const LISTED: usize = 128;
 // The most points kept.

@@ -32,7 +32,7 @@ pub fn new_vault() -> Vault
 }
 
 // The number of a lane, or 0 for a lane above 7.
-fn lane_at(a: [u64; 8], lane: u8) -> u64
+pub fn lane_at(a: [u64; 8], lane: u8) -> u64
     ensures { λ r. ⌜ r ≡ at a lane ⌝ }
 {
     if lane < LANES { a[lane as usize] } else { 0 }
@@ -95,7 +95,7 @@ pub fn vault_ok(x: Vault) -> bool
 }
 
 // The numbers of the lanes with that of a lane set to k; a lane above 7 changes nothing.
-fn lane_set(a: [u64; 8], lane: u8, k: u64) -> [u64; 8]
+pub fn lane_set(a: [u64; 8], lane: u8, k: u64) -> [u64; 8]
     ensures { λ r. ⌜ r ≡ set a lane k ⌝ }
 {
     let mut next = a;
