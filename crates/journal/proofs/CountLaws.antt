@@ -1,21 +1,19 @@
 -- The numbers of the lanes less the records of a list, and a record of it below a position that is not visible, from the end of the list to its front.
 -- Assumes nothing.
-use Prim.Native.Nat.{ℕ, zero, suc, _-_, _≤_, _<_}
-use mathlib.Core.Path.{_≡_, refl, sym, ap, ap₂, _∙_}
-use mathlib.Core.Logic.{_≢_}
-use mathlib.Core.Bool.{Bool, true, false, cond, _&&_, _||_}
-use mathlib.Core.List.{List, [], _∷_, _++_}
+use Prim.Native.Nat.{ℕ, suc, _-_, _≤_, _<_}
+use mathlib.Core.Path.{_≡_, refl, sym, ap, _∙_}
+use mathlib.Core.Bool.{Bool, cond, _&&_, _||_}
+use mathlib.Core.List.{List, [], _∷_}
 use native.Mathlib.Decide.{decLt, ℕ-discrete}
 use native.Mathlib.Omega.{arith}
 use borrow.Author.Tests.{eq-eqb, ne-eqb}
-use lib.Dec.{leb, ltb, eqb}
-use lib.ListN.{length, getD, set, length-set, List·getD-eq-default}
+use lib.Dec.{ltb}
+use lib.ListN.{length, set, length-set, List·getD-eq-default}
 use lib.Seq.{ext-getD, getD-set-same, getD-set-other}
-use Rattle.octets.specs.Lists.{at, tab}
+use Rattle.octets.specs.Lists.{at}
 use Rattle.table.specs.Table.{lanes}
 use Rattle.protocol.specs.Point.{Mark, laneCount, unseenBelow, countsAt}
 use Rattle.protocol.proofs.Listed.{length-tab, at-tab}
-use Rattle.protocol.proofs.Lanes.{Put, same, other, put}
 use Rattle.journal.specs.Less.{oneLess}
 
 pub length-counts : (w : List ℕ) (ms : List Mark) → length (countsAt w ms) ≡ lanes

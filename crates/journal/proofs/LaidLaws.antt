@@ -18,13 +18,16 @@ use Rattle.journal.proofs.MarkLaws.{markAt, before-more, from-in, from-
 abbrev pub laid : (Mark → ℕ) → List Mark → List ℕ
 laid f ms = map f ms ++ replicate (listed - length ms) 0
 
+-- in an array with empty places behind, one more
+pub fill-more : {A : Type 0} (m n : ℕ) (xs : List A) (x d : A) → length xs ≡ n → n < m → set (xs ++ replicate (m - n) d) n x ≡ (xs ++ (x ∷ [])) ++ replicate (m - suc n) d
+fill-more {A} m n xs x d e h =
+    let k : m - n ≡ suc (m - suc n) = omega arith in
+    ap (λ (q : ℕ). set (xs ++ replicate q d) n x) k ∙ set-at xs d (replicate (m - suc n) d) x n e ∙ sym (append-assoc xs (x ∷ []) (replicate (m - suc n) d))
+
 laid-more : (f : Mark → ℕ) (ms : List Mark) (m : Mark) → length ms < listed → set (laid f ms) (length ms) (f m) ≡ laid f (ms ++ (m ∷ []))
 laid-more f ms m h =
-    let k : listed - length ms ≡ suc (listed - suc (length ms)) = omega arith in
     let n : length (ms ++ (m ∷ [])) ≡ suc (length ms) = length-append ms (m ∷ []) ∙ add-one (length ms) in
-    ap (λ (q : ℕ). set (map f ms ++ replicate {A = ℕ} q 0) (length ms) (f m)) k
-    ∙ set-at (map f ms) 0 (replicate (listed - suc (length ms)) 0) (f m) (length ms) (length-map ms f)
-    ∙ rw (map-snoc f ms m, n, append-assoc)
+    fill-more listed (length ms) (map f ms) (f m) 0 (length-map ms f) h ∙ rw (map-snoc f ms m, n)
 
 -- the arrays and the count hold these records
 pub record Laid (ms : List Mark) (positions lanes : List ℕ) (count : ℕ) : Type 0 where

@@ -4,3 +4,4 @@ pub mod MarkLaws
 pub mod CountLaws
 pub mod WalkLaws
 pub mod LaidLaws
+pub mod PointLaws

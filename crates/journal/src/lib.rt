@@ -14,6 +14,7 @@ use protocol::Points;
 use reading::MAX_TEXT;
 
 pub mod marks;
+pub mod points;
 
 // The most records listed at or above the newest point.
 pub const LISTED: usize = 128;

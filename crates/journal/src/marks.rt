@@ -50,7 +50,7 @@ pub fn counts_at(x: Vault, j: Journal, position: u64) -> [u64; 8]
 }
 
 // Whether a listed record below a position is not visible.
-pub fn unseen_below(x: Vault, j: Journal, position: u64) -> bool
+pub fn unseen_below(j: Journal, x: Vault, position: u64) -> bool
     ensures { λ r. ⌜ r ≡ unseenBelow position (x .w) (x .v) (marksOf j) ⌝ }
 {
     let v = x.v;

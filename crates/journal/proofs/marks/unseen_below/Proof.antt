@@ -21,14 +21,14 @@ loop-holds c =
     let a = c .before .before .before .args in
     let e = c .listed-in .ensures in
     let long : length (a .x .w) ≡ 8 = search needs in
-    let s = unseen-start (a .x .w) (a .x .v) (a .position) (a .t2) long (e .0) in
+    let s = unseen-start (a .x .w) (a .x .v) (a .position) (a .t1) long (e .0) in
     (e .1, omega arith, long, s .0, s .1)
 
 loop-again : tie.Need-loop-again Inv-loop μ-loop
 loop-again c =
     let a = c .before .before .before .before .before .before .before .before .before .before .args in
     let l = c .before .before .before .before .before .before .loop in
-    let s = unseen-step (a .x .w) (a .x .v) (a .position) (a .t2) (l .inv .2) (c .before .before .before .before .before .loop-test .taken) (l .inv .1) (l .inv .3) (l .inv .4) (c .before .before .lane-at .ensures) (c .before .lane-at2 .ensures) (c .one-less .ensures) in
+    let s = unseen-step (a .x .w) (a .x .v) (a .position) (a .t1) (l .inv .2) (c .before .before .before .before .before .loop-test .taken) (l .inv .1) (l .inv .3) (l .inv .4) (c .before .before .lane-at .ensures) (c .before .lane-at2 .ensures) (c .one-less .ensures) in
     (omega arith, omega arith, l .inv .2, s .0, s .1)
 
 returns : tie.Need-returns Inv-loop μ-loop
@@ -36,7 +36,7 @@ returns c =
     let a = c .before .before .before .before .before .args in
     let l = c .before .loop in
     let z : l .i ≡ 0 = omega arith in
-    l .inv .4 ∙ ap (λ (k : ℕ). unseenBelow (a .position) (a .x .w) (a .x .v) (drop k (marksOf (a .t2)))) z
+    l .inv .4 ∙ ap (λ (k : ℕ). unseenBelow (a .position) (a .x .w) (a .x .v) (drop k (marksOf (a .t1)))) z
 
 pub unseen-below-spec : {M : Type 1} → statement M
 unseen-below-spec =
