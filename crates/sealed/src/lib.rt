@@ -6,3 +6,5 @@
 pub mod file;
 mod frame;
 pub mod record;
+
+pub use frame::FRAME_LEN;
