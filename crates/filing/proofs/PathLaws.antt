@@ -1,0 +1,101 @@
+-- Each way out of a checkpoint's three steps (01, Operations) is the definition's.
+-- Assumes nothing.
+use Prim.Native.Nat.{ℕ, suc, _+_, _≤_, _<_}
+use mathlib.Core.Path.{_≡_, ap, _∙_}
+use mathlib.Core.List.{List, []}
+use native.Mathlib.Numerals.{add-one}
+use native.Mathlib.Omega.{arith}
+use borrow.Author.Tests.{le-leb, lt-leb, lt-ltb, le-ltb}
+use lib.ListN.{length}
+use Rattle.aes.specs.Cipher.{cipher}
+use Rattle.ghash.specs.Multiples.{productBy}
+use Rattle.gcm.specs.Answers.{putOver}
+use Rattle.gcm.specs.Key.{prepared}
+use Rattle.gcm.specs.declared.Key.{Key}
+use Rattle.reading.specs.Transaction.{meters}
+use Rattle.table.specs.declared.Table.{Table}
+use Rattle.table.specs.TableText.{tableText}
+use Rattle.table.proofs.TextLaws.{length-table}
+use Rattle.sealed.specs.Aead.{aesGcm, gcmBy}
+use Rattle.sealed.specs.Checkpoint.{fileLen, fileHead, fileNonce, fileBytes, fileAnswer, filePut}
+use Rattle.sealed.proofs.FrameTrip.{aes-grows, length-framed}
+use Rattle.sealed.proofs.FileLaws.{length-head, prepared-file-bytes}
+use Rattle.protocol.specs.Vaults.{counterMax, setS, setN}
+use Rattle.protocol.specs.States.{withVault}
+use Rattle.protocol.specs.Said.{refuse, numberOf, valuesOf, shown, shownAs}
+use Rattle.protocol.specs.Checkpoint.{tableFile}
+use Rattle.protocol.specs.declared.Vault.{Vault}
+use Rattle.protocol.specs.declared.State.{State}
+use Rattle.protocol.specs.declared.Due.{Due}
+use Rattle.protocol.specs.declared.Store.the-variants as S
+use Rattle.protocol.specs.declared.Refusal.the-variants as R
+use Rattle.handed.specs.Parts.{refusedWith, takenWith}
+use Rattle.filing.specs.Steps.{sealStep, fileStep, versionStep}
+
+-- ---- a table's file
+
+-- put out under a prepared key it is put out under the key
+pub sealed-under : (key o : List ℕ) (k : Key) (version seal : ℕ) (t : Table) {q : List ℕ} → k ≡ prepared key
+    → q ≡ putOver (filePut (fileAnswer (length o)) (fileBytes (gcmBy (cipher (k .schedule)) (productBy (k .multiples))) version seal t)) o
+    → q ≡ putOver (filePut (fileAnswer (length o)) (fileBytes (aesGcm key) version seal t)) o
+sealed-under key o k version seal t ek e =
+    e ∙ ap (λ (f : List ℕ). putOver (filePut (fileAnswer (length o)) f) o)
+    (ap (λ (j : Key). fileBytes (gcmBy (cipher (j .schedule)) (productBy (j .multiples))) version seal t) ek ∙ prepared-file-bytes key version seal t)
+
+-- whatever its entries are, it has the length of a file
+length-put : (key : List ℕ) (version seal : ℕ) (t : Table) → length (t .entries) ≡ meters → length (fileBytes (aesGcm key) version seal t) ≡ fileLen
+unfolding fileBytes
+length-put key version seal t long =
+    let l = length-table t long in
+    length-framed (aesGcm key) (aes-grows key) (fileNonce seal) (fileHead version seal) (tableText t) (length-head version seal) ∙ omega arith
+
+module _ (c : State) (next : Due) where
+  -- ---- N
+
+  pub seal-spent : counterMax ≤ c .vault .n → shownAs (refusedWith c R.Condition) [] ≡ sealStep c next
+  unfolding shownAs shown numberOf valuesOf sealStep refuse
+  seal-spent h = rw (le-leb counterMax (c .vault .n) h)
+
+  pub seal-taken : c .vault .n < counterMax → (x : Vault) (d : State) → x ≡ setN (c .vault) (c .vault .n + 1) → d ≡ withVault c x next
+      → shownAs (takenWith d (S.N (c .vault .n + 1)) 0) [] ≡ sealStep c next
+  unfolding shownAs shown sealStep refuse
+  seal-taken h x d ex ed = rw (lt-leb counterMax (c .vault .n) h, ed, ex, add-one (c .vault .n))
+
+  -- ---- S
+
+  pub version-spent : counterMax ≤ c .vault .s → shownAs (refusedWith c R.Condition) [] ≡ versionStep c next
+  unfolding shownAs shown numberOf valuesOf versionStep refuse
+  version-spent h = rw (le-leb counterMax (c .vault .s) h)
+
+  pub version-taken : c .vault .s < counterMax → (x : Vault) (d : State) → x ≡ setS (c .vault) (c .vault .s + 1) → d ≡ withVault c x next
+      → shownAs (takenWith d (S.S (c .vault .s + 1)) 0) [] ≡ versionStep c next
+  unfolding shownAs shown versionStep refuse
+  version-taken h x d ex ed = rw (lt-leb counterMax (c .vault .s) h, ed, ex, add-one (c .vault .s))
+
+  -- ---- the file, over a buffer o
+
+  module _ (o : List ℕ) where
+    pub file-spent : counterMax ≤ c .vault .s
+        → (shownAs (refusedWith c R.Condition) (fileStep c (length o) next .put) ≡ fileStep c (length o) next) × (o ≡ putOver (fileStep c (length o) next .put) o)
+    unfolding shownAs shown numberOf valuesOf fileStep refuse
+    file-spent h = let e = le-leb counterMax (c .vault .s) h in (rw e, rw e)
+
+    module _ (good : c .vault .s < counterMax) where
+      pub file-short : length o < fileLen
+          → (shownAs (refusedWith c (R.Length 6184)) (fileStep c (length o) next .put) ≡ fileStep c (length o) next) × (o ≡ putOver (fileStep c (length o) next .put) o)
+      unfolding shownAs shown numberOf valuesOf fileStep refuse
+      file-short h =
+          let e = lt-leb counterMax (c .vault .s) good in
+          let f = lt-ltb (length o) fileLen h in
+          (rw (e, f), rw (e, f))
+
+      -- d is the state behind it, and q the buffer
+      pub file-taken : fileLen ≤ length o → length (c .table .entries) ≡ meters → (d : State) (q : List ℕ) → d ≡ withVault c (c .vault) next
+          → q ≡ putOver (filePut (fileAnswer (length o)) (fileBytes (aesGcm (c .key)) (c .vault .s + 1) (c .vault .n) (c .table))) o
+          → (shownAs (takenWith d S.File 6184) (fileStep c (length o) next .put) ≡ fileStep c (length o) next) × (q ≡ putOver (fileStep c (length o) next .put) o)
+      unfolding shownAs shown fileStep refuse tableFile fileAnswer filePut
+      file-taken h long d q ed eq =
+          let e = lt-leb counterMax (c .vault .s) good in
+          let f = le-ltb (length o) fileLen h in
+          let l = length-put (c .key) (suc (c .vault .s)) (c .vault .n) (c .table) long in
+          (rw (e, f, ed, l), eq ∙ rw (e, f, add-one (c .vault .s)))

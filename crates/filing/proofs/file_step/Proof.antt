@@ -1,0 +1,53 @@
+-- `filing::file_step` meets its contract: each way out is the definition's. Assumes nothing.
+use mathlib.Core.Path.{_≡_, ap, _∙_}
+use lib.ListN.{length}
+use borrow.Author.Needs.{needs}
+use Rattle.table.proofs.Arrays.{length-of-map}
+use Rattle.protocol.specs.Said.{shownAs}
+use Rattle.protocol.specs.declared.Answer.{Answer}
+use Rattle.filing.specs.Steps.{fileStep}
+use Rattle.filing.proofs.PathLaws.{file-spent, file-short, file-taken}
+use Rattle.filing.proofs.file_step.Statement.{statement}
+use Rattle.filing.proofs.file_step.Tie as tie
+
+returns : tie.Need-returns
+returns c =
+    let a = c .before .before .before .before .args in
+    let p = fileStep (a .c) (length (a .out .now)) (a .next) .put in
+    let w = file-spent (a .c) (a .next) (a .out .now) (c .before .if1 .taken) in
+    (ap (λ (y : Answer). shownAs y p) (c .refused .ensures) ∙ w .0, w .1)
+
+returns-2 : tie.Need-returns-2
+returns-2 c =
+    let a = c .before .before .before .before .before .args in
+    let p = fileStep (a .c) (length (a .out .now)) (a .next) .put in
+    let w = file-short (a .c) (a .next) (a .out .now) (c .before .before .if1 .left) (c .before .if2 .taken) in
+    (ap (λ (y : Answer). shownAs y p) (c .refused2 .ensures) ∙ w .0, w .1)
+
+returns-3 : tie.Need-returns-3
+returns-3 c =
+    let v = c .before .with-vault in
+    let t = c .before .before .before .before .put-table in
+    let i = c .before .before .before .before .before .before .before .before in
+    let a = i .before .before .before .before .args in
+    let p = fileStep (a .c) (length (a .out .now)) (a .next) .put in
+    -- what is known of the table among the parts of the state
+    let g = i .before .before .before .before .good .0 .1 .1 .1 .1 .1 .0 in
+    let n : length (a .c .table .entries) ≡ 256 = search (length-of-map, g) in
+    let w = file-taken (a .c) (a .next) (a .out .now) (i .before .if1 .left) (i .if2 .left) n (v .result) _ (v .ensures) (t .ensures .1) in
+    (ap (λ (y : Answer). shownAs y p) (c .taken .ensures) ∙ w .0, w .1)
+
+pub file-step-spec : {M : Type 1} → statement M
+file-step-spec =
+    tie.close
+    (tie.spec
+    (λ c κs. search needs)
+    returns
+    (λ c κs. search needs)
+    returns-2
+    (λ c. search needs)
+    (λ c κs. search needs)
+    (λ c κs. search needs)
+    (λ c κs. search needs)
+    (λ c. search needs)
+    returns-3)

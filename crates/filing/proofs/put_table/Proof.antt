@@ -1,0 +1,15 @@
+-- `filing::put_table` meets its contract: a file under the prepared key is one under the key. Assumes nothing.
+use borrow.Author.Needs.{needs}
+use Rattle.filing.proofs.PathLaws.{sealed-under}
+use Rattle.filing.proofs.put_table.Statement.{statement}
+use Rattle.filing.proofs.put_table.Tie as tie
+
+returns : tie.Need-returns
+returns c =
+    let s = c .before .before in
+    let k = s .before .before .before .before .before in
+    let a = k .before .before .args in
+    (s .seal-file .ensures .0, sealed-under (a .key) (a .out .now) (k .prepare .result) (a .version) (a .seal) (a .t) (k .prepare .ensures) (s .seal-file .ensures .1))
+
+pub put-table-spec : {M : Type 1} → statement M
+put-table-spec = tie.close (tie.spec (λ c κs. search needs) (λ c κs. search needs) (λ c. search needs) returns)

@@ -1,0 +1,34 @@
+-- `filing::version_step` meets its contract: each way out is the definition's. Assumes nothing.
+use mathlib.Core.Path.{ap, _∙_}
+use mathlib.Core.List.{[]}
+use borrow.Author.Needs.{needs}
+use Rattle.protocol.specs.Said.{shownAs}
+use Rattle.protocol.specs.declared.Answer.{Answer}
+use Rattle.filing.proofs.PathLaws.{version-spent, version-taken}
+use Rattle.filing.proofs.version_step.Statement.{statement}
+use Rattle.filing.proofs.version_step.Tie as tie
+
+returns : tie.Need-returns
+returns c =
+    let a = c .before .before .before .args in
+    ap (λ (y : Answer). shownAs y []) (c .refused .ensures) ∙ version-spent (a .c) (a .next) (c .before .if1 .taken)
+
+returns-2 : tie.Need-returns-2
+returns-2 c =
+    let w = c .before in
+    let x = w .before in
+    let a = x .before .before .before .args in
+    ap (λ (y : Answer). shownAs y []) (c .taken .ensures)
+    ∙ version-taken (a .c) (a .next) (x .before .if1 .left) (x .set-s .result) (w .with-vault .result) (x .set-s .ensures) (w .with-vault .ensures)
+
+pub version-step-spec : {M : Type 1} → statement M
+version-step-spec =
+    tie.close
+    (tie.spec
+    (λ c κs. search needs)
+    returns
+    (λ c. search needs)
+    (λ c κs. search needs)
+    (λ c κs. search needs)
+    (λ c κs. search needs)
+    returns-2)

@@ -1,0 +1,2 @@
+-- Steps: the three steps of a checkpoint.
+pub mod Steps
