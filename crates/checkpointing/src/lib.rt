@@ -1,0 +1,122 @@
+// Checkpoint (01, Operations): stores N + 1, the file of the whole table with version S + 1 and the raised N as seal number,
+// then S + 1. Points set before it began are then covered. Three calls, each naming one store.
+ghost use mathlib.Core.Path.{_≡_};
+ghost use mathlib.Core.List.{[]};
+ghost use lib.ListN.{length};
+ghost use Rattle.gcm.specs.Answers.{putOver};
+ghost use Rattle.protocol.specs.Said.{shownAs};
+ghost use Rattle.protocol.specs.Checkpoint.{coveredPoint, coveredPoints, checkpoint};
+ghost use Rattle.checkpointing.specs.Parts.{partOf, firstCall, lastCall};
+use journal::POINTS;
+use protocol::Answer;
+use protocol::Due;
+use protocol::Point;
+use protocol::Points;
+use protocol::Refusal;
+use protocol::State;
+use vault::COUNTER_MAX;
+
+// Which of its calls a Checkpoint makes while a store is due.
+enum Part {
+    Seal,
+    File,
+    Version,
+    None,
+}
+
+// The call that a Checkpoint makes while this store is due.
+fn part_of(due: Due) -> Part
+    ensures { λ r. ⌜ r ≡ partOf due ⌝ }
+{
+    match due {
+        Due::Nothing => Part::Seal,
+        Due::Record => Part::None,
+        Due::File => Part::File,
+        Due::Version => Part::Version,
+        Due::TruncateR { lane, position } => Part::None,
+        Due::TruncateDelete { position } => Part::None,
+        Due::RecoverFile { second } => Part::None,
+        Due::RecoverVersion { second } => Part::None,
+        Due::RecoverSeal => Part::None,
+        Due::RecoverR { lane } => Part::None,
+        Due::RecoverEpoch => Part::None,
+        Due::RecoverV { lane } => Part::None,
+        Due::RecoverEmpty => Part::None,
+    }
+}
+
+// A point that a checkpoint covers.
+fn covered_point(p: Point) -> Point
+    ensures { λ r. ⌜ r ≡ coveredPoint p ⌝ }
+{
+    let mut next = p;
+    next.covered = true;
+    next
+}
+
+// The points, each of them covered.
+fn covered_points(p: Points) -> Points
+    ensures { λ r. ⌜ r ≡ coveredPoints p ⌝ }
+{
+    let mut items = p.items;
+    let mut i: usize = 0;
+    while i < POINTS {
+        let old = items[i];
+        let new = covered_point(old);
+        items[i] = new;
+        i += 1;
+    }
+    let mut next = p;
+    next.items = items;
+    next
+}
+
+// The call that names N. It refuses an S or N at the maximum (8).
+fn first_call(c: State) -> Answer
+    ensures { λ r. ⌜ shownAs r [] ≡ firstCall c ⌝ }
+{
+    let x = c.vault;
+    if (COUNTER_MAX <= x.s) | (COUNTER_MAX <= x.n) {
+        return handed::refused(c, Refusal::Spent);
+    }
+    filing::seal_step(c, Due::File)
+}
+
+// The call that names S, behind which the points are covered. It refuses an S at the maximum (1).
+fn last_call(c: State) -> Answer
+    ensures { λ r. ⌜ shownAs r [] ≡ lastCall c ⌝ }
+{
+    let x = c.vault;
+    if COUNTER_MAX <= x.s {
+        return handed::refused(c, Refusal::Condition);
+    }
+    let p = c.points;
+    let points = covered_points(p);
+    let mut next = c;
+    next.points = points;
+    filing::version_step(next, Due::Nothing)
+}
+
+// Checkpoint: names N, puts the file out, names S, a call each. It refuses a state that is not valid and in service, or
+// that has another operation's store due (1), an output with no room for the file (3), and a first call with S or N at the
+// maximum (8).
+pub fn checkpoint(c: State, out: &mut [u8]) -> Answer
+    ensures answer { λ r. ⌜ shownAs r (checkpoint c (length (now (out .entry))) .put) ≡ checkpoint c (length (now (out .entry))) ⌝ }
+    ensures bytes { λ r. ⌜ now (out .exit) ≡ putOver (checkpoint c (length (now (out .entry))) .put) (now (out .entry)) ⌝ }
+{
+    let x = c.vault;
+    let phase = c.phase;
+    let due = c.due;
+    let fine = handed::valid(x, c.journal.count, c.points.count);
+    let on = handed::serving(phase);
+    if !(fine & on) {
+        return handed::refused(c, Refusal::Condition);
+    }
+    let part = part_of(due);
+    match part {
+        Part::Seal => first_call(c),
+        Part::File => filing::file_step(c, Due::Version, out),
+        Part::Version => last_call(c),
+        Part::None => handed::refused(c, Refusal::Condition),
+    }
+}
