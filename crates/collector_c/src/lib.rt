@@ -1,0 +1,84 @@
+// Whole runs of the collector, for the bench: what its calls cost on the compiled code.
+ghost use Prim.Native.Nat.{_≤_};
+use protocol::Due;
+use protocol::Outcome;
+use protocol::Phase;
+use protocol::State;
+
+// A transaction of 16 writes and its record.
+const RECORD: usize = 176;
+
+// The state behind a transaction, and 1 where it was made visible.
+struct Run {
+    state: State,
+    seen: u64,
+}
+
+// A collector in service, from a loaded one.
+fn served(key: [u8; 16]) -> State {
+    let x = vault::new_vault();
+    let c = loading::loaded(x, key);
+    let table = c.table;
+    let journal = c.journal;
+    let points = c.points;
+    let held = c.held;
+    State {
+        vault: x,
+        phase: Phase::Serving,
+        due: Due::Nothing,
+        table,
+        journal,
+        points,
+        held,
+        key,
+    }
+}
+
+// 1 for a call that was taken.
+fn taken(o: Outcome) -> u64
+    ensures { λ r. ⌜ r ≤ 1 ⌝ }
+{
+    match o {
+        Outcome::Taken { store, len } => 1,
+        Outcome::Refused { why } => 0,
+    }
+}
+
+// A transaction of 16 writes: accepted, sealed, and made visible from the bytes that Seal put out.
+fn transact(c: State, text: &[u8], lane: u8, position: u64) -> Run
+    ensures { λ r. ⌜ r .seen ≤ 1 ⌝ }
+{
+    let a = accepting::accept(c, text, lane, position);
+    let one = a.state;
+    let mut record = [0u8; RECORD];
+    let s = accepting::seal(one, &mut record);
+    let two = s.state;
+    let d = committing::commit(two, &record);
+    let state = d.state;
+    let outcome = d.outcome;
+    let seen = taken(outcome);
+    Run { state, seen }
+}
+
+// So many transactions of one text of 16 writes, lane by lane; how many of them were made visible. The list of accepted
+// records is emptied whenever it is full.
+#[no_mangle]
+pub extern "C" fn collector_transactions(text: &[u8], count: u64) -> u64
+    ensures { λ r. ⌜ r ≤ count ⌝ }
+{
+    let mut state = served([7u8; 16]);
+    let mut seen: u64 = 0;
+    let mut i: u64 = 0;
+    while i < count {
+        let lane = (i % 8) as u8;
+        let run = transact(state, text, lane, i);
+        let next = run.state;
+        state = next;
+        seen += run.seen;
+        i += 1;
+        if i % 128 == 0 {
+            state.journal = journal::no_journal();
+        }
+    }
+    seen
+}
