@@ -1,5 +1,5 @@
-// Checkpoint (01, Operations): stores N + 1, the file of the whole table with version S + 1 and the raised N as seal number,
-// then S + 1. Points set before it began are then covered. Three calls, each naming one store.
+// Checkpoint (01, Operations): stores N + 1, the file of the whole table with version S + 1 and the raised N as seal
+// number, then S + 1. Points set before it began are then covered. Three calls, each naming one store.
 ghost use mathlib.Core.Path.{_≡_};
 ghost use mathlib.Core.List.{[]};
 ghost use lib.ListN.{length};
@@ -16,7 +16,7 @@ use protocol::Refusal;
 use protocol::State;
 use vault::COUNTER_MAX;
 
-// Which of its calls a Checkpoint makes while a store is due.
+// The calls of a Checkpoint: the one that names N, the one that puts the file out, the one that names S, and none.
 enum Part {
     Seal,
     File,
@@ -97,9 +97,9 @@ fn last_call(c: State) -> Answer
     filing::version_step(next, Due::Nothing)
 }
 
-// Checkpoint: names N, puts the file out, names S, a call each. It refuses a state that is not valid and in service, or
-// that has another operation's store due (1), an output with no room for the file (3), and a first call with S or N at the
-// maximum (8).
+// Checkpoint: names N, puts the file out, names S, a call each. It refuses a state that is not valid and in service,
+// has another operation's store due, or goes on with S at the maximum (1), an output with no room for the file (3), and
+// a first call with S or N at the maximum (8).
 pub fn checkpoint(c: State, out: &mut [u8]) -> Answer
     ensures answer { λ r. ⌜ shownAs r (checkpoint c (length (now (out .entry))) .put) ≡ checkpoint c (length (now (out .entry))) ⌝ }
     ensures bytes { λ r. ⌜ now (out .exit) ≡ putOver (checkpoint c (length (now (out .entry))) .put) (now (out .entry)) ⌝ }

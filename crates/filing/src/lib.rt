@@ -1,5 +1,5 @@
-// The three steps of a checkpoint (01, Operations): N, the file, S. Checkpoint makes them once, Recover twice; each is told
-// which store is due behind it.
+// The three steps of a checkpoint (01, Operations): N, the file, S. Checkpoint makes them once, Recover twice; each is
+// told which store is due behind it.
 ghost use mathlib.Core.Path.{_≡_};
 ghost use mathlib.Core.List.{[]};
 ghost use lib.ListN.{length};
@@ -20,8 +20,8 @@ use sealed::file::FilePut;
 use table::Table;
 use vault::COUNTER_MAX;
 
-// Seals a table under a key as a checkpoint file at the start of out. It refuses an output with no room; out is then as it
-// came.
+// Seals a table under a key as a checkpoint file at the start of out. It refuses an output with no room; out is then
+// as it came.
 pub fn put_table(key: [u8; 16], version: u64, seal: u64, t: Table, out: &mut [u8]) -> FilePut
     ensures answer { λ r. ⌜ r ≡ fileAnswer (length (now (out .entry))) ⌝ }
     ensures buffer { λ r. ⌜ now (out .exit) ≡ putOver (filePut (fileAnswer (length (now (out .entry)))) (fileBytes (aesGcm key) version seal t)) (now (out .entry)) ⌝ }
@@ -67,8 +67,8 @@ pub fn seal_step(c: State, next: Due) -> Answer
     handed::taken(state, Store::N { value }, 0)
 }
 
-// Puts the file out, with version S + 1 and N as its seal number. It refuses an S at the maximum (1), and an output with no
-// room for the file (3).
+// Puts the file out, with version S + 1 and N as its seal number. It refuses an S at the maximum (1), and an output
+// with no room for the file (3).
 pub fn file_step(c: State, next: Due, out: &mut [u8]) -> Answer
     ensures answer { λ r. ⌜ shownAs r (fileStep c (length (now (out .entry))) next .put) ≡ fileStep c (length (now (out .entry))) next ⌝ }
     ensures bytes { λ r. ⌜ now (out .exit) ≡ putOver (fileStep c (length (now (out .entry))) next .put) (now (out .entry)) ⌝ }

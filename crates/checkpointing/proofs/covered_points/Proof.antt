@@ -1,6 +1,6 @@
 -- `checkpointing::covered_points` meets its contract. The invariant: what is covered so far, with the rest covered, is the whole covered. The
 -- measure is the points left. Assumes nothing.
-use mathlib.Core.Path.{_≡_, refl, ap, _∙_}
+use mathlib.Core.Path.{_≡_, refl, _∙_}
 use mathlib.Core.List.{map}
 use Prim.Native.Nat.{_-_, _≤_}
 use native.Mathlib.Omega.{arith}
