@@ -5,4 +5,5 @@ cd "$(dirname "$0")/.."
 
 rt staticlib cipher_c | tail -n 1
 rt staticlib sealed_c | tail -n 1
+rt staticlib collector_c | tail -n 1
 sh bench/run.sh

@@ -1,4 +1,4 @@
-/* What both benchmarks use: bytes to work on, the same in every run, and a clock. */
+/* What the benchmarks use: bytes to work on, the same in every run, and a clock. */
 
 #ifndef BENCH_COMMON_H
 #define BENCH_COMMON_H

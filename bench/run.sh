@@ -1,13 +1,14 @@
 #!/bin/sh
-# Benchmarks of the static libraries: the cipher against other libraries, and records and checkpoint files against the
-# bare cipher. Run from the repository's top; the libraries are built before.
+# Benchmarks of the static libraries: the cipher against other libraries, and records, checkpoint files and transactions
+# against the bare cipher. Run from the repository's top; the libraries are built before.
 set -eu
 
 library=target/staticlib/libcipher_c.a
 sealed=target/staticlib/libsealed_c.a
+collector=target/staticlib/libcollector_c.a
 built=target/bench
 
-for each in "$library" "$sealed"; do
+for each in "$library" "$sealed" "$collector"; do
     [ -f "$each" ] || { echo "$each is missing: build it first" >&2; exit 1; }
 done
 sh tests/cipher/packages.sh gcc libc6-dev libssl-dev libmbedtls-dev libbearssl-dev \
@@ -17,7 +18,8 @@ mkdir -p "$built"
 # -rdynamic lets the program's answer about the CPU stand before mbedTLS's own.
 gcc -O2 -Wall -Wextra -Werror -rdynamic -Itests/cipher -o "$built/cipher" bench/cipher.c \
     "$library" -lcrypto -lmbedcrypto -lbearssl -lnettle -lgcrypt
-gcc -O2 -Wall -Wextra -Werror -Itests/cipher -Itests/sealed -o "$built/sealed" bench/sealed.c "$sealed" "$library"
+gcc -O2 -Wall -Wextra -Werror -Itests/cipher -Itests/sealed -o "$built/sealed" bench/sealed.c \
+    "$collector" "$sealed" "$library"
 
 "$built/cipher"
 echo

@@ -4,13 +4,15 @@
    Each row is a piece of work and the cipher's part of it.  The two take turns
    over several rounds, and a time is the least of its rounds.  A table crosses
    the boundary as its text, so a checkpoint's times hold reading that text
-   before sealing, and writing it after opening.  The last row enters the
+   before sealing, and writing it after opening.  The fifth row enters the
    transactions of a full log into a table; the cipher's time beside it is that
-   of opening them. */
+   of opening them.  The last runs transactions through the collector, each
+   accepted, sealed and committed; beside it each is sealed and opened. */
 
 #define _POSIX_C_SOURCE 199309L
 
 #include "cipher.h"
+#include "collector.h"
 #include "common.h"
 #include "sealed.h"
 
@@ -23,6 +25,7 @@ enum {
     WRITES = 16, TEXT = 8 + 8 * WRITES, RECORD = TEXT + FRAME,
     METERS = 256, ENTRY = 24, TABLE = METERS * ENTRY, FILE_LEN = TABLE + FRAME,
     LOG = 1489,                         /* so many such records fill a log of 262,144 bytes */
+    LISTED = 128,                       /* so many records are listed before a point is needed */
     ROUNDS = 25
 };
 
@@ -70,6 +73,11 @@ static int enter_log(void)
     return sealed_enter_each(file_table, TABLE, texts, sizeof texts, 3, 258) == SEALED_DONE;
 }
 
+static int transact(void)
+{
+    return collector_transactions(text, TEXT, LISTED) == LISTED;
+}
+
 /* ---- the cipher's part of it ---- */
 
 static int bare_seal_record(void)
@@ -104,6 +112,14 @@ static int bare_open_log(void)
     return opened == LOG;
 }
 
+static int bare_transact(void)
+{
+    int done = 0;
+    for (int i = 0; i < LISTED; i++)
+        done += bare_seal_record() && bare_open_record();
+    return done == LISTED;
+}
+
 static struct row {
     const char *name;
     int (*work[2])(void);               /* the whole, and the cipher's part */
@@ -114,6 +130,7 @@ static struct row {
     { "seal a checkpoint", { seal_file, bare_seal_file }, { 0, 0 } },
     { "open a checkpoint", { open_file, bare_open_file }, { 0, 0 } },
     { "enter a full log, beside opening it", { enter_log, bare_open_log }, { 0, 0 } },
+    { "128 transactions", { transact, bare_transact }, { 0, 0 } },
 };
 
 enum { ROWS = sizeof rows / sizeof rows[0] };
