@@ -1,0 +1,2 @@
+-- From: what the first call of Recover reads, over the parts of a state.
+pub mod From

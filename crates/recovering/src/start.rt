@@ -1,0 +1,136 @@
+// The first call of Recover (01, Operations), which accepts a recovery or turns it down: the checkpoint and the log are
+// read where they lie, with the key prepared once.
+ghost use mathlib.Core.Path.{_≡_};
+ghost use mathlib.Core.List.{[]};
+ghost use Rattle.aes.specs.Cipher.{cipher};
+ghost use Rattle.ghash.specs.Multiples.{productBy};
+ghost use Rattle.sealed.specs.Aead.{aesGcm, gcmBy};
+ghost use Rattle.protocol.specs.Said.{numberOf, valuesOf, shownAs};
+ghost use Rattle.protocol.specs.Replay.{stopped};
+ghost use Rattle.protocol.specs.Recover.{spent, recoverFirst};
+ghost use Rattle.replay.specs.Rules.{readOf};
+ghost use Rattle.recovering.specs.From.{readFrom};
+use protocol::Answer;
+use protocol::Due;
+use protocol::Phase;
+use protocol::Refusal;
+use protocol::State;
+use protocol::Store;
+use protocol::Vault;
+use replay::LogEnd;
+use replay::LogRead;
+use sealed::file::FileHead;
+use table::Table;
+use vault::COUNTER_MAX;
+
+// The most bytes of a log.
+pub const LOG_MAX: usize = 262144;
+// The most that S and N may be at recovery, which raises each of them twice.
+const RAISED_MAX: u64 = COUNTER_MAX - 2;
+
+// Whether S or N has no room for two more, or E for one.
+pub fn spent(x: Vault) -> bool
+    ensures { λ r. ⌜ r ≡ spent x ⌝ }
+{
+    (RAISED_MAX < x.s) | (RAISED_MAX < x.n) | (COUNTER_MAX <= x.e)
+}
+
+// A reading that was turned down.
+fn turned_down(x: Vault, t: Table, why: Refusal) -> LogRead
+    ensures { λ r. ⌜ readOf r ≡ stopped (numberOf why) (valuesOf why) ⌝ }
+{
+    let last = x.r;
+    LogRead {
+        end: LogEnd::Stopped { why },
+        offset: 0,
+        last,
+        table: t,
+    }
+}
+
+// Reads the checkpoint and the log, under a key lent as its two prepared parts. It refuses a checkpoint that does not
+// open, or is there while S is 0 (9), one of another version than S (12), and what the log rules refuse.
+fn read_under<'a>(
+    w: &'a [u32; 44],
+    m: &'a [u64; 1024],
+    x: Vault,
+    checkpoint: &[u8],
+    log: &[u8],
+) -> LogRead
+    ensures { λ r. ⌜ readOf r ≡ readFrom (gcmBy (cipher (now (w .entry))) (productBy (now (m .entry)))) x (now (checkpoint .entry)) (now (log .entry)) ⌝ }
+{
+    let s = x.s;
+    if s == 0 {
+        let none = table::empty();
+        if checkpoint.len() != 0 {
+            return turned_down(x, none, Refusal::Closed { offset: 0 });
+        }
+        return replay::replay(w, m, x, none, log);
+    }
+    let file = sealed::file::open_file(w, m, checkpoint);
+    let t = file.table;
+    let head = file.head;
+    match head {
+        FileHead::File { version, seal } => {
+            if version != s {
+                return turned_down(x, t, Refusal::Version);
+            }
+            replay::replay(w, m, x, t, log)
+        }
+        FileHead::Closed => turned_down(x, t, Refusal::Closed { offset: 0 }),
+    }
+}
+
+// Reads the checkpoint and the log under a key.
+fn read(key: [u8; 16], x: Vault, checkpoint: &[u8], log: &[u8]) -> LogRead
+    ensures { λ r. ⌜ readOf r ≡ readFrom (aesGcm key) x (now (checkpoint .entry)) (now (log .entry)) ⌝ }
+{
+    let k = gcm::prepare(key);
+    read_under(&k.schedule, &k.multiples, x, checkpoint, log)
+}
+
+// The first call: a checkpoint and a log; it names the first N. It refuses a state that breaks its rule or with a store
+// due (1), a log that is too long (3), a spent counter (8), and what does not read (9 to 13).
+pub fn first(c: State, checkpoint: &[u8], log: &[u8]) -> Answer
+    ensures { λ r. ⌜ shownAs r [] ≡ recoverFirst c (now (checkpoint .entry)) (now (log .entry)) ⌝ }
+{
+    let x = c.vault;
+    let due = c.due;
+    let fine = handed::valid(x, c.journal.count, c.points.count);
+    let free = handed::is_nothing(due);
+    if !(fine & free) {
+        return handed::refused(c, Refusal::Condition);
+    }
+    if LOG_MAX < log.len() {
+        return handed::refused(c, Refusal::Length { right: LOG_MAX });
+    }
+    if spent(x) {
+        return handed::refused(c, Refusal::Spent);
+    }
+    let key = c.key;
+    let got = read(key, x, checkpoint, log);
+    let end = got.end;
+    match end {
+        LogEnd::Read => {
+            let table = got.table;
+            let n = x.n;
+            let value = n + 1;
+            let raised = vault::set_n(x, value);
+            let journal = c.journal;
+            let points = c.points;
+            let held = c.held;
+            let state = State {
+                vault: raised,
+                phase: Phase::Recovering,
+                due: Due::RecoverFile { second: false },
+                table,
+                journal,
+                points,
+                held,
+                key,
+            };
+            handed::taken(state, Store::N { value }, 0)
+        }
+        LogEnd::Stopped { why } => handed::refused(c, why),
+    }
+}
