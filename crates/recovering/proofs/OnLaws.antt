@@ -13,7 +13,7 @@ use Rattle.gcm.specs.Answers.{putOver}
 use Rattle.protocol.specs.Vaults.{counterMax, setV, setR, setE}
 use Rattle.protocol.specs.States.{noJournal, noPoints, valid, withVault}
 use Rattle.protocol.specs.Said.{Answered, refuse, refusing, numberOf, valuesOf, shown, shownAs}
-use Rattle.protocol.specs.Recover.{afterVersion, allVisible, afterR, afterV, inService, recoverDue, recoverPhase, recover}
+use Rattle.protocol.specs.Recover.{afterVersion, allVisible, afterR, afterV, inService, recoverFirst, recoverDue, recoverPhase, recover}
 use Rattle.protocol.specs.declared.Vault.{Vault}
 use Rattle.protocol.specs.declared.State.{State}
 use Rattle.protocol.specs.declared.Answer.{Answer}
@@ -109,3 +109,40 @@ still o r s h = subst (Met o o r) h (refl, refl)
 -- the store that is due is told
 pub told : (o e : List ℕ) (r : Answer) (c : State) {due : Due} → c .due ≡ due → Met o e r (recoverDue c (length o) due) → Met o e r (recoverDue c (length o) (c .due))
 told o e r c h = subst (λ (d : Due). Met o e r (recoverDue c (length o) d)) (sym h)
+
+-- a step that put nothing out
+pub on-still : (o : List ℕ) (r : Answer) (c : State) {due : Due} → c .due ≡ due → shownAs r [] ≡ recoverDue c (length o) due → Met o o r (recoverDue c (length o) (c .due))
+on-still o r c h e = told o o r c h (still o r (recoverDue c (length o) _) e)
+
+-- a store that is not recovery's
+pub on-other : (o : List ℕ) (r : Answer) (c : State) {due : Due} → c .due ≡ due → r ≡ refusedWith c R.Condition → recoverDue c (length o) due ≡ refusing c 1 []
+    → Met o o r (recoverDue c (length o) (c .due))
+unfolding shownAs shown numberOf valuesOf
+on-other o r c h er e = on-still o r c h (ap (λ (y : Answer). shownAs y []) er ∙ sym e)
+
+-- ---- by phase
+
+module _ (c : State) (file log o e : List ℕ) (r : Answer) where
+  pub phased : {p : Phase} → c .phase ≡ p → Met o e r (recoverPhase c file log (length o) p) → Met o e r (recover c file log (length o))
+  unfolding recover
+  phased h = subst (λ (p : Phase). Met o e r (recoverPhase c file log (length o) p)) (sym h)
+
+module _ (c : State) (file log o : List ℕ) (r : Answer) where
+  pub on-cold : c .phase ≡ F.Cold → shownAs r [] ≡ recoverFirst c file log → Met o o r (recover c file log (length o))
+  unfolding recoverPhase
+  on-cold h s = phased c file log o o r h (still o r (recoverFirst c file log) s)
+
+  pub on-serving : c .phase ≡ F.Serving → r ≡ refusedWith c R.Condition → Met o o r (recover c file log (length o))
+  unfolding recoverPhase shownAs shown numberOf valuesOf
+  on-serving h er = phased c file log o o r h (still o r (refusing c 1 []) (ap (λ (y : Answer). shownAs y []) er))
+
+  module _ (h : c .phase ≡ F.Recovering) {b : Bool} (q : b ≡ validBy (c .vault) (c .journal .count) (c .points .count)) where
+    pub on-invalid : not b ≡ true → r ≡ refusedWith c R.Condition → Met o o r (recover c file log (length o))
+    unfolding recoverPhase valid refuse shownAs shown numberOf valuesOf
+    on-invalid t er = phased c file log o o r h (still o r (recoverPhase c file log (length o) F.Recovering) (ap (λ (y : Answer). shownAs y []) er ∙ rw (← q, t)))
+
+    pub on-valid : not b ≡ false → (e : List ℕ) → Met o e r (recoverDue c (length o) (c .due)) → Met o e r (recover c file log (length o))
+    unfolding recoverPhase valid refuse
+    on-valid t e m =
+        let s : recoverDue c (length o) (c .due) ≡ recoverPhase c file log (length o) F.Recovering = rw (← q, t) in
+        phased c file log o e r h (subst (Met o e r) s m)

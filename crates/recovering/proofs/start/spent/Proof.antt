@@ -4,7 +4,7 @@ use Rattle.recovering.proofs.start.spent.Statement.{statement}
 use Rattle.recovering.proofs.start.spent.Tie as tie
 
 returns : tie.Need-returns
-returns c = spent-is (c .args .x)
+returns c = spent-is (c .before .before .before .args .x)
 
 pub spent-spec : {M : Type 1} → statement M
 spent-spec =
