@@ -10,6 +10,10 @@ ghost use Rattle.protocol.specs.Said.{shownAs};
 ghost use Rattle.protocol.specs.Load.{load};
 ghost use Rattle.protocol.specs.Accept.{accept, seal};
 ghost use Rattle.protocol.specs.Commit.{commit};
+ghost use Rattle.protocol.specs.Point.{point};
+ghost use Rattle.protocol.specs.Checkpoint.{checkpoint};
+ghost use Rattle.protocol.specs.Truncate.{truncate};
+ghost use Rattle.protocol.specs.Recover.{recover};
 ghost use Rattle.collector.specs.Back.{answered, handedBack};
 use protocol::Answer;
 use protocol::Due;
@@ -72,6 +76,41 @@ impl Collector {
         ensures { λ r. ⌜ shownAs (answered r) [] ≡ commit (self .state) (now (bytes .entry)) ⌝ }
     {
         let a = committing::commit(self.state, bytes);
+        handed_back(a)
+    }
+
+    // Point: a position below which every accepted record is visible. Names no store. Refuses with 1, 6, 7 and 15.
+    pub fn point(self, position: u64) -> Handed
+        ensures { λ r. ⌜ shownAs (answered r) [] ≡ point (self .state) position ⌝ }
+    {
+        let a = pointing::point(self.state, position);
+        handed_back(a)
+    }
+
+    // Checkpoint, in three calls: the store of N, the file at the start of out, the store of S. Refuses with 1, 3 and 8.
+    pub fn checkpoint(self, out: &mut [u8]) -> Handed
+        ensures answer { λ r. ⌜ shownAs (answered r) (checkpoint (self .state) (length (now (out .entry))) .put) ≡ checkpoint (self .state) (length (now (out .entry))) ⌝ }
+        ensures bytes { λ r. ⌜ now (out .exit) ≡ putOver (checkpoint (self .state) (length (now (out .entry))) .put) (now (out .entry)) ⌝ }
+    {
+        let a = checkpointing::checkpoint(self.state, out);
+        handed_back(a)
+    }
+
+    // Truncate at a covered point, in nine calls: the stores of R of lanes 0 to 7, and the deletion. Refuses with 1 and 14.
+    pub fn truncate(self, position: u64) -> Handed
+        ensures { λ r. ⌜ shownAs (answered r) [] ≡ truncate (self .state) position ⌝ }
+    {
+        let a = truncating::truncate(self.state, position);
+        handed_back(a)
+    }
+
+    // Recover, in 15 or 24 calls: the first reads checkpoint and log, and names the first store; the others name the other
+    // stores, two of them with a file at the start of out. Refuses with 1, 3, 8 to 13.
+    pub fn recover(self, file: &[u8], log: &[u8], out: &mut [u8]) -> Handed
+        ensures answer { λ r. ⌜ shownAs (answered r) (recover (self .state) (now (file .entry)) (now (log .entry)) (length (now (out .entry))) .put) ≡ recover (self .state) (now (file .entry)) (now (log .entry)) (length (now (out .entry))) ⌝ }
+        ensures bytes { λ r. ⌜ now (out .exit) ≡ putOver (recover (self .state) (now (file .entry)) (now (log .entry)) (length (now (out .entry))) .put) (now (out .entry)) ⌝ }
+    {
+        let a = recovering::recover(self.state, file, log, out);
         handed_back(a)
     }
 

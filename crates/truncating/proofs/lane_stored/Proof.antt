@@ -1,0 +1,16 @@
+-- `truncating::lane_stored` meets its contract: the state is the old one but for R of the lane and the store due. Assumes nothing.
+use borrow.Author.Needs.{needs}
+use mathlib.Core.Path.{_∙_}
+use Rattle.truncating.proofs.PathLaws.{lane-made}
+use Rattle.truncating.proofs.lane_stored.Statement.{statement}
+use Rattle.truncating.proofs.lane_stored.Tie as tie
+
+returns : tie.Need-returns
+returns c =
+    let d = c .before .before .before .before .before .before in
+    let a = d .before .before .before .before .before .args in
+    c .taken .ensures ∙ lane-made (a .c) (a .position) (a .lane) (a .q) (d .before .before .lane-at .ensures) (d .before .set-r .ensures) (d .after-r .ensures)
+
+pub lane-stored-spec : {M : Type 1} → statement M
+lane-stored-spec =
+    tie.close (tie.spec (λ c κs. search needs) (λ c κs. search needs) (λ c κs. search needs) (λ c κs. search needs) returns)
