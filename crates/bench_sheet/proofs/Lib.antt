@@ -1,0 +1,1 @@
+-- The proofs are those of the functions.

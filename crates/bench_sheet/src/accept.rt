@@ -1,0 +1,244 @@
+// Accept: a transaction, a lane, a position. It can return 1 and 4 to 8.
+use super::made;
+use super::made::MAX;
+use super::write;
+use collector::Collector;
+
+fn one(name: &[u8], c: Collector, lane: u8, position: u64) {
+    let h = made::accept_one(c, lane, position);
+    write::line(name, made::said(h));
+}
+
+fn sixteen(name: &[u8], c: Collector, lane: u8, position: u64) {
+    let h = made::accept_16(c, lane, position);
+    write::line(name, made::said(h));
+}
+
+pub fn seventeen(name: &[u8], c: Collector, lane: u8, position: u64) {
+    let h = made::accept_17(c, lane, position);
+    write::line(name, made::said(h));
+}
+
+// ---- the condition, and what is due (1)
+
+fn condition() {
+    one(b"accept, a cold collector", made::cold(), 0, 10);
+    one(b"accept, one in service", made::fresh(), 0, 10);
+}
+
+fn due() {
+    let h = made::accept_one(made::fresh(), 0, 10);
+    one(b"accept, a record is due", made::left(h), 0, 11);
+}
+
+// ---- a state that breaks a rule (1)
+
+fn broken() {
+    one(
+        b"accept, V above W",
+        made::served(made::lane0(4, 5, 0)),
+        0,
+        10,
+    );
+    one(b"accept, V at W", made::served(made::lane0(5, 5, 0)), 0, 10);
+}
+
+fn overfull() {
+    let c = made::fresh();
+    one(b"accept, 129 records listed", made::listing(c, 129), 0, 10);
+    one(b"accept, 9 points kept", made::keeping(c, 9), 0, 10);
+    one(b"accept, 8 points kept", made::keeping(c, 8), 0, 10);
+}
+
+// ---- the transaction's layout (4)
+
+fn of_8(name: &[u8], t: [u8; 8]) {
+    let c = made::fresh();
+    let h = c.accept(&t, 0, 10);
+    write::line(name, made::said(h));
+}
+
+fn of_16(name: &[u8], t: [u8; 16]) {
+    let c = made::fresh();
+    let h = c.accept(&t, 0, 10);
+    write::line(name, made::said(h));
+}
+
+fn of_17(name: &[u8], t: [u8; 17]) {
+    let c = made::fresh();
+    let h = c.accept(&t, 0, 10);
+    write::line(name, made::said(h));
+}
+
+fn of_24(name: &[u8], t: [u8; 24]) {
+    let c = made::fresh();
+    let h = c.accept(&t, 0, 10);
+    write::line(name, made::said(h));
+}
+
+const BYTES_17: [u8; 17] = [100, 0, 0, 0, 0, 0, 0, 0, 0, 0, 1, 0, 7, 0, 0, 0, 0];
+
+const METER_255: [u8; 16] = [100, 0, 0, 0, 0, 0, 0, 0, 255, 0, 1, 0, 7, 0, 0, 0];
+
+const METER_256: [u8; 16] = [100, 0, 0, 0, 0, 0, 0, 0, 0, 1, 1, 0, 7, 0, 0, 0];
+
+const CODE_0: [u8; 16] = [100, 0, 0, 0, 0, 0, 0, 0, 0, 0, 0, 0, 7, 0, 0, 0];
+
+const CODE_4: [u8; 16] = [100, 0, 0, 0, 0, 0, 0, 0, 0, 0, 4, 0, 7, 0, 0, 0];
+
+const CODE_5: [u8; 16] = [100, 0, 0, 0, 0, 0, 0, 0, 0, 0, 5, 0, 7, 0, 0, 0];
+
+const NO_ZERO: [u8; 16] = [100, 0, 0, 0, 0, 0, 0, 0, 0, 0, 1, 1, 7, 0, 0, 0];
+
+const METERS_3_3: [u8; 24] = [
+    100,
+    0,
+    0,
+    0,
+    0,
+    0,
+    0,
+    0,
+    3,
+    0,
+    1,
+    0,
+    7,
+    0,
+    0,
+    0,
+    3,
+    0,
+    1,
+    0,
+    7,
+    0,
+    0,
+    0,
+];
+
+const METERS_3_4: [u8; 24] = [
+    100,
+    0,
+    0,
+    0,
+    0,
+    0,
+    0,
+    0,
+    3,
+    0,
+    1,
+    0,
+    7,
+    0,
+    0,
+    0,
+    4,
+    0,
+    1,
+    0,
+    7,
+    0,
+    0,
+    0,
+];
+
+fn writes() {
+    of_8(b"accept, no write", made::NO_WRITE);
+    of_16(b"accept, one write", made::ONE_WRITE);
+    of_17(b"accept, one write and a byte", BYTES_17);
+    seventeen(b"accept, 17 writes", made::fresh(), 0, 10);
+    sixteen(b"accept, 16 writes", made::fresh(), 0, 10);
+}
+
+fn fields() {
+    of_16(b"accept, meter 256", METER_256);
+    of_16(b"accept, meter 255", METER_255);
+    of_16(b"accept, code 0", CODE_0);
+    of_16(b"accept, code 5", CODE_5);
+    of_16(b"accept, code 4", CODE_4);
+    of_16(b"accept, 1 for the zero", NO_ZERO);
+    of_24(b"accept, meters 3 and 3", METERS_3_3);
+    of_24(b"accept, meters 3 and 4", METERS_3_4);
+}
+
+// ---- the lane (5)
+
+fn lanes() {
+    one(b"accept, lane 8", made::fresh(), 8, 10);
+    one(b"accept, lane 7", made::fresh(), 7, 10);
+}
+
+// ---- the position (6)
+
+fn used() {
+    let s = made::put(made::fresh(), 0, 10);
+    one(b"accept, at the last position", made::behind(s), 0, 10);
+    one(b"accept, above the last position", made::behind(s), 0, 11);
+}
+
+fn pointed() {
+    let c = made::pointing(made::fresh(), 10);
+    one(b"accept, at the newest point", c, 0, 10);
+    one(b"accept, above the newest point", c, 0, 11);
+}
+
+// ---- the list (7)
+
+fn full() {
+    let c = made::fresh();
+    one(b"accept, 128 records listed", made::listing(c, 128), 0, 10);
+    one(b"accept, 127 records listed", made::listing(c, 127), 0, 10);
+}
+
+// ---- the counter (8)
+
+fn spent() {
+    let last = made::lane0(MAX, 0, 0);
+    one(b"accept, W at the maximum", made::served(last), 0, 10);
+    let next = made::lane0(MAX - 1, 0, 0);
+    one(b"accept, W below the maximum", made::served(next), 0, 10);
+}
+
+// ---- the lowest number first
+
+fn first() {
+    seventeen(
+        b"accept, a cold collector and 17 writes",
+        made::cold(),
+        0,
+        10,
+    );
+    seventeen(b"accept, 17 writes and lane 8", made::fresh(), 8, 10);
+    let c = made::pointing(made::fresh(), 10);
+    one(b"accept, lane 8 and at the newest point", c, 8, 10);
+}
+
+fn then() {
+    let c = made::listing(made::served(made::lane0(MAX, 0, 0)), 128);
+    one(b"accept, 128 records listed and W at the maximum", c, 0, 10);
+    let d = made::pointing(c, 10);
+    one(
+        b"accept, at the newest point, 128 records listed and W at the maximum",
+        d,
+        0,
+        10,
+    );
+}
+
+pub fn cases() {
+    condition();
+    due();
+    broken();
+    overfull();
+    writes();
+    fields();
+    lanes();
+    used();
+    pointed();
+    full();
+    spent();
+    first();
+    then();
+}

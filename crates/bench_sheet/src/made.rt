@@ -1,0 +1,458 @@
+// What the cases are about: vault numbers, transactions, collectors, records.
+//
+// A collector in service is made from a loaded one: the phase is set, and everything else is as Load left it.
+use collector::Collector;
+use collector::Handed;
+use protocol::Due;
+use protocol::Outcome;
+use protocol::Phase;
+use protocol::State;
+use protocol::Vault;
+
+pub const MAX: u64 = vault::COUNTER_MAX;
+
+pub const KEY: [u8; 16] = [7u8; 16];
+
+// ---- transactions of stamp 100, with writes to meters 0 and up, each of code 1 and reading 7
+
+pub const NO_WRITE: [u8; 8] = [100, 0, 0, 0, 0, 0, 0, 0];
+
+pub const ONE_WRITE: [u8; 16] = [
+    100,
+    0,
+    0,
+    0,
+    0,
+    0,
+    0,
+    0, //
+    0,
+    0,
+    1,
+    0,
+    7,
+    0,
+    0,
+    0, //
+];
+
+pub const WRITES_16: [u8; 136] = [
+    100,
+    0,
+    0,
+    0,
+    0,
+    0,
+    0,
+    0, //
+    0,
+    0,
+    1,
+    0,
+    7,
+    0,
+    0,
+    0, //
+    1,
+    0,
+    1,
+    0,
+    7,
+    0,
+    0,
+    0, //
+    2,
+    0,
+    1,
+    0,
+    7,
+    0,
+    0,
+    0, //
+    3,
+    0,
+    1,
+    0,
+    7,
+    0,
+    0,
+    0, //
+    4,
+    0,
+    1,
+    0,
+    7,
+    0,
+    0,
+    0, //
+    5,
+    0,
+    1,
+    0,
+    7,
+    0,
+    0,
+    0, //
+    6,
+    0,
+    1,
+    0,
+    7,
+    0,
+    0,
+    0, //
+    7,
+    0,
+    1,
+    0,
+    7,
+    0,
+    0,
+    0, //
+    8,
+    0,
+    1,
+    0,
+    7,
+    0,
+    0,
+    0, //
+    9,
+    0,
+    1,
+    0,
+    7,
+    0,
+    0,
+    0, //
+    10,
+    0,
+    1,
+    0,
+    7,
+    0,
+    0,
+    0, //
+    11,
+    0,
+    1,
+    0,
+    7,
+    0,
+    0,
+    0, //
+    12,
+    0,
+    1,
+    0,
+    7,
+    0,
+    0,
+    0, //
+    13,
+    0,
+    1,
+    0,
+    7,
+    0,
+    0,
+    0, //
+    14,
+    0,
+    1,
+    0,
+    7,
+    0,
+    0,
+    0, //
+    15,
+    0,
+    1,
+    0,
+    7,
+    0,
+    0,
+    0, //
+];
+
+pub const WRITES_17: [u8; 144] = [
+    100,
+    0,
+    0,
+    0,
+    0,
+    0,
+    0,
+    0, //
+    0,
+    0,
+    1,
+    0,
+    7,
+    0,
+    0,
+    0, //
+    1,
+    0,
+    1,
+    0,
+    7,
+    0,
+    0,
+    0, //
+    2,
+    0,
+    1,
+    0,
+    7,
+    0,
+    0,
+    0, //
+    3,
+    0,
+    1,
+    0,
+    7,
+    0,
+    0,
+    0, //
+    4,
+    0,
+    1,
+    0,
+    7,
+    0,
+    0,
+    0, //
+    5,
+    0,
+    1,
+    0,
+    7,
+    0,
+    0,
+    0, //
+    6,
+    0,
+    1,
+    0,
+    7,
+    0,
+    0,
+    0, //
+    7,
+    0,
+    1,
+    0,
+    7,
+    0,
+    0,
+    0, //
+    8,
+    0,
+    1,
+    0,
+    7,
+    0,
+    0,
+    0, //
+    9,
+    0,
+    1,
+    0,
+    7,
+    0,
+    0,
+    0, //
+    10,
+    0,
+    1,
+    0,
+    7,
+    0,
+    0,
+    0, //
+    11,
+    0,
+    1,
+    0,
+    7,
+    0,
+    0,
+    0, //
+    12,
+    0,
+    1,
+    0,
+    7,
+    0,
+    0,
+    0, //
+    13,
+    0,
+    1,
+    0,
+    7,
+    0,
+    0,
+    0, //
+    14,
+    0,
+    1,
+    0,
+    7,
+    0,
+    0,
+    0, //
+    15,
+    0,
+    1,
+    0,
+    7,
+    0,
+    0,
+    0, //
+    16,
+    0,
+    1,
+    0,
+    7,
+    0,
+    0,
+    0, //
+];
+
+// ---- vault numbers
+
+// Lane 0's numbers, and zeros.
+pub fn lane0(w: u64, v: u64, r: u64) -> Vault {
+    let a = vault::set_w(vault::new_vault(), 0, w);
+    let b = vault::set_v(a, 0, v);
+    vault::set_r(b, 0, r)
+}
+
+// ---- collectors
+
+// A cold one.
+pub fn cold() -> Collector {
+    let state = loading::loaded(vault::new_vault(), KEY);
+    Collector { state }
+}
+
+// One in service with these vault numbers.
+pub fn served(x: Vault) -> Collector {
+    let c = loading::loaded(x, KEY);
+    let table = c.table;
+    let journal = c.journal;
+    let points = c.points;
+    let held = c.held;
+    let state = State {
+        vault: x,
+        phase: Phase::Serving,
+        due: Due::Nothing,
+        table,
+        journal,
+        points,
+        held,
+        key: KEY,
+    };
+    Collector { state }
+}
+
+// One in service with a new vault.
+pub fn fresh() -> Collector {
+    served(vault::new_vault())
+}
+
+// The same that lists so many records.
+pub fn listing(c: Collector, count: usize) -> Collector {
+    let mut state = c.state;
+    state.journal.count = count;
+    Collector { state }
+}
+
+// The same that keeps so many points.
+pub fn keeping(c: Collector, count: usize) -> Collector {
+    let mut state = c.state;
+    state.points.count = count;
+    Collector { state }
+}
+
+// The same with its newest point at a position.
+pub fn pointing(c: Collector, newest: u64) -> Collector {
+    let mut state = c.state;
+    state.points.any = true;
+    state.points.newest = newest;
+    Collector { state }
+}
+
+// ---- calls
+
+// The collector that a call hands back.
+pub fn left(h: Handed) -> Collector {
+    let c = h.collector;
+    c
+}
+
+// What it answered.
+pub fn said(h: Handed) -> Outcome {
+    let o = h.outcome;
+    o
+}
+
+// Accept of one write.
+pub fn accept_one(c: Collector, lane: u8, position: u64) -> Handed {
+    let t = ONE_WRITE;
+    c.accept(&t, lane, position)
+}
+
+// Accept of 16 writes.
+pub fn accept_16(c: Collector, lane: u8, position: u64) -> Handed {
+    let t = WRITES_16;
+    c.accept(&t, lane, position)
+}
+
+// Accept of 17 writes.
+pub fn accept_17(c: Collector, lane: u8, position: u64) -> Handed {
+    let t = WRITES_17;
+    c.accept(&t, lane, position)
+}
+
+// Commit of a record of one write.
+pub fn commit_56(c: Collector, bytes: [u8; 56]) -> Handed {
+    c.commit(&bytes)
+}
+
+// ---- records
+
+// A record of one write: the collector behind Seal, and the bytes.
+pub struct Stored {
+    pub collector: Collector,
+    pub bytes: [u8; 56],
+}
+
+// Seal of what is held, one write.
+fn seal_one(c: Collector) -> Stored {
+    let mut bytes = [0u8; 56];
+    let h = c.seal(&mut bytes);
+    let collector = left(h);
+    Stored { collector, bytes }
+}
+
+// A transaction of one write, accepted and sealed.
+pub fn put(c: Collector, lane: u8, position: u64) -> Stored {
+    let h = accept_one(c, lane, position);
+    seal_one(left(h))
+}
+
+// The collector behind it.
+pub fn behind(s: Stored) -> Collector {
+    let c = s.collector;
+    c
+}
+
+// The bytes of it.
+pub fn bytes_of(s: Stored) -> [u8; 56] {
+    let b = s.bytes;
+    b
+}

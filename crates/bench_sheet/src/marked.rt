@@ -1,0 +1,46 @@
+// The marked cases of the bench sheet that are calls: M1 and M10.
+use super::accept;
+use super::made;
+use super::seal;
+use super::write;
+use collector::Collector;
+
+// A record of one write, put and committed.
+fn seen(c: Collector, lane: u8, position: u64) -> Collector {
+    let s = made::put(c, lane, position);
+    let h = made::commit_56(made::behind(s), made::bytes_of(s));
+    made::left(h)
+}
+
+// Stamp 100 on one lane, then on another: the lane that meter 0 shows. Lane 2 is at number 7, the others at 1.
+fn shows(first: u8, second: u8) -> u64 {
+    let x = vault::set_w(vault::new_vault(), 2, 6);
+    let c = made::served(vault::set_v(x, 2, 6));
+    let d = seen(seen(c, first, 10), second, 20);
+    let e = d.reading(0);
+    e.lane as u64
+}
+
+fn m1() {
+    let one = made::accept_one(made::fresh(), 0, 10);
+    seal::room_176(b"M1 one write", made::left(one));
+    let all = made::accept_16(made::fresh(), 0, 10);
+    seal::room_176(b"M1 16 writes", made::left(all));
+    accept::seventeen(b"M1 17 writes", made::fresh(), 0, 10);
+}
+
+fn m10() {
+    write::counted(
+        b"M10 lane 2 number 7, then lane 5 number 1, shows lane",
+        shows(2, 5),
+    );
+    write::counted(
+        b"M10 lane 5 number 1, then lane 2 number 7, shows lane",
+        shows(5, 2),
+    );
+}
+
+pub fn cases() {
+    m1();
+    m10();
+}

@@ -1,0 +1,97 @@
+// Writes a case's line: its name, and what the call answered.
+use libc::STDOUT_FILENO;
+use protocol::Outcome;
+use protocol::Refusal;
+use protocol::Store;
+
+pub fn text(s: &[u8]) {
+    io::write_all(STDOUT_FILENO, s);
+}
+
+pub fn number(n: u64) {
+    io::print_decimal(STDOUT_FILENO, n);
+}
+
+// A store of a lane's number.
+fn lane_store(name: &[u8], lane: u8, value: u64) {
+    text(name);
+    text(b" of lane ");
+    number(lane as u64);
+    text(b" is ");
+    number(value);
+}
+
+// A store of a number.
+fn plain_store(name: &[u8], value: u64) {
+    text(name);
+    number(value);
+}
+
+fn store(named: Store) {
+    match named {
+        Store::Nothing => text(b"no store"),
+        Store::W { lane, value } => lane_store(b"W", lane, value),
+        Store::V { lane, value } => lane_store(b"V", lane, value),
+        Store::R { lane, value } => lane_store(b"R", lane, value),
+        Store::E { value } => plain_store(b"E is ", value),
+        Store::S { value } => plain_store(b"S is ", value),
+        Store::N { value } => plain_store(b"N is ", value),
+        Store::Record { position } => plain_store(b"record at ", position),
+        Store::File => text(b"checkpoint"),
+        Store::Delete { position } => plain_store(b"delete below ", position),
+        Store::Empty => text(b"empty the log"),
+    }
+}
+
+// A number of 01's table with a value beside it.
+fn valued(name: &[u8], value: usize) {
+    text(name);
+    number(value as u64);
+}
+
+fn refusal(why: Refusal) {
+    match why {
+        Refusal::Condition => text(b"1"),
+        Refusal::Numbers => text(b"2"),
+        Refusal::Length { right } => valued(b"3, ", right),
+        Refusal::Transaction => text(b"4"),
+        Refusal::Lane => text(b"5"),
+        Refusal::Position => text(b"6"),
+        Refusal::Full => text(b"7"),
+        Refusal::Spent => text(b"8"),
+        Refusal::Closed { offset } => valued(b"9, ", offset),
+        Refusal::Epoch { offset } => valued(b"10, ", offset),
+        Refusal::Turn { offset } => valued(b"11, ", offset),
+        Refusal::Version => text(b"12"),
+        Refusal::Missing { lane } => valued(b"13, ", lane as usize),
+        Refusal::Point => text(b"14"),
+        Refusal::Unseen => text(b"15"),
+    }
+}
+
+// The line of a call.
+pub fn line(name: &[u8], o: Outcome) {
+    text(name);
+    text(b": ");
+    match o {
+        Outcome::Taken { store: named, len } => {
+            text(b"taken, ");
+            store(named);
+            if 0 < len {
+                text(b", ");
+                number(len as u64);
+                text(b" bytes");
+            }
+        }
+        Outcome::Refused { why } => refusal(why),
+    }
+    text(b"\n");
+}
+
+// A line with a number.
+pub fn counted(name: &[u8], n: u64) {
+    text(name);
+    text(b": ");
+    number(n);
+    text(b"\n");
+}
