@@ -7,6 +7,8 @@ use protocol::State;
 
 // A transaction of 16 writes and its record.
 const RECORD: usize = 176;
+// A checkpoint file.
+const FILE: usize = 6184;
 
 // The state behind a transaction, and 1 where it was made visible.
 struct Run {
@@ -81,4 +83,67 @@ pub extern "C" fn collector_transactions(text: &[u8], count: u64) -> u64
         }
     }
     seen
+}
+
+// ---- Checkpoint
+
+// One checkpoint: N, the file, S. 1 where the file was put out and the last call was taken.
+fn file_out(c: State) -> Run
+    ensures { λ r. ⌜ r .seen ≤ 1 ⌝ }
+{
+    let mut out = [0u8; FILE];
+    let a = checkpointing::checkpoint(c, &mut out);
+    let one = a.state;
+    let b = checkpointing::checkpoint(one, &mut out);
+    let two = b.state;
+    let d = checkpointing::checkpoint(two, &mut out);
+    let state = d.state;
+    let outcome = d.outcome;
+    let seen = taken(outcome);
+    Run { state, seen }
+}
+
+// So many checkpoints of a table of the text's meters; how many of them were made.
+#[no_mangle]
+pub extern "C" fn collector_checkpoints(text: &[u8], count: u64) -> u64
+    ensures { λ r. ⌜ r ≤ count ⌝ }
+{
+    let c = served([7u8; 16]);
+    let first = transact(c, text, 0, 0);
+    let mut state = first.state;
+    let mut seen: u64 = 0;
+    let mut i: u64 = 0;
+    while i < count {
+        let run = file_out(state);
+        let next = run.state;
+        state = next;
+        seen += run.seen;
+        i += 1;
+    }
+    seen
+}
+
+// ---- Recover
+
+// Load of a vault with these numbers of lane 0 visible and this version, and the first Recover call, which reads
+// checkpoint and log: 1 where it is accepted.
+#[no_mangle]
+pub extern "C" fn collector_recover(
+    key: &[u8],
+    file: &[u8],
+    log: &[u8],
+    numbers: u64,
+    version: u64,
+) -> u64
+    ensures { λ r. ⌜ r ≤ 1 ⌝ }
+{
+    let a = vault::set_w(vault::new_vault(), 0, numbers);
+    let b = vault::set_v(a, 0, numbers);
+    let x = vault::set_s(b, version);
+    let l = loading::load(x, key);
+    let cold = l.state;
+    let mut out = [0u8; 1];
+    let r = recovering::recover(cold, file, log, &mut out);
+    let outcome = r.outcome;
+    taken(outcome)
 }
