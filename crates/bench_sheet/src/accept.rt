@@ -52,115 +52,58 @@ fn overfull() {
 
 // ---- the transaction's layout (4)
 
-fn of_8(name: &[u8], t: [u8; 8]) {
+// A transaction on a new collector, lane 0, position 10.
+fn transaction(name: &[u8], t: &[u8]) {
     let c = made::fresh();
-    let h = c.accept(&t, 0, 10);
+    let h = c.accept(t, 0, 10);
     write::line(name, made::said(h));
 }
-
-fn of_16(name: &[u8], t: [u8; 16]) {
-    let c = made::fresh();
-    let h = c.accept(&t, 0, 10);
-    write::line(name, made::said(h));
-}
-
-fn of_17(name: &[u8], t: [u8; 17]) {
-    let c = made::fresh();
-    let h = c.accept(&t, 0, 10);
-    write::line(name, made::said(h));
-}
-
-fn of_24(name: &[u8], t: [u8; 24]) {
-    let c = made::fresh();
-    let h = c.accept(&t, 0, 10);
-    write::line(name, made::said(h));
-}
-
-const BYTES_17: [u8; 17] = [100, 0, 0, 0, 0, 0, 0, 0, 0, 0, 1, 0, 7, 0, 0, 0, 0];
-
-const METER_255: [u8; 16] = [100, 0, 0, 0, 0, 0, 0, 0, 255, 0, 1, 0, 7, 0, 0, 0];
-
-const METER_256: [u8; 16] = [100, 0, 0, 0, 0, 0, 0, 0, 0, 1, 1, 0, 7, 0, 0, 0];
-
-const CODE_0: [u8; 16] = [100, 0, 0, 0, 0, 0, 0, 0, 0, 0, 0, 0, 7, 0, 0, 0];
-
-const CODE_4: [u8; 16] = [100, 0, 0, 0, 0, 0, 0, 0, 0, 0, 4, 0, 7, 0, 0, 0];
-
-const CODE_5: [u8; 16] = [100, 0, 0, 0, 0, 0, 0, 0, 0, 0, 5, 0, 7, 0, 0, 0];
-
-const NO_ZERO: [u8; 16] = [100, 0, 0, 0, 0, 0, 0, 0, 0, 0, 1, 1, 7, 0, 0, 0];
-
-const METERS_3_3: [u8; 24] = [
-    100,
-    0,
-    0,
-    0,
-    0,
-    0,
-    0,
-    0,
-    3,
-    0,
-    1,
-    0,
-    7,
-    0,
-    0,
-    0,
-    3,
-    0,
-    1,
-    0,
-    7,
-    0,
-    0,
-    0,
-];
-
-const METERS_3_4: [u8; 24] = [
-    100,
-    0,
-    0,
-    0,
-    0,
-    0,
-    0,
-    0,
-    3,
-    0,
-    1,
-    0,
-    7,
-    0,
-    0,
-    0,
-    4,
-    0,
-    1,
-    0,
-    7,
-    0,
-    0,
-    0,
-];
 
 fn writes() {
-    of_8(b"accept, no write", made::NO_WRITE);
-    of_16(b"accept, one write", made::ONE_WRITE);
-    of_17(b"accept, one write and a byte", BYTES_17);
+    transaction(b"accept, no write", b"\x64\0\0\0\0\0\0\0");
+    transaction(
+        b"accept, one write",
+        b"\x64\0\0\0\0\0\0\0\0\0\x01\0\x07\0\0\0",
+    );
+    transaction(
+        b"accept, one write and a byte",
+        b"\x64\0\0\0\0\0\0\0\0\0\x01\0\x07\0\0\0\0",
+    );
     seventeen(b"accept, 17 writes", made::fresh(), 0, 10);
     sixteen(b"accept, 16 writes", made::fresh(), 0, 10);
 }
 
 fn fields() {
-    of_16(b"accept, meter 256", METER_256);
-    of_16(b"accept, meter 255", METER_255);
-    of_16(b"accept, code 0", CODE_0);
-    of_16(b"accept, code 5", CODE_5);
-    of_16(b"accept, code 4", CODE_4);
-    of_16(b"accept, 1 for the zero", NO_ZERO);
-    of_24(b"accept, meters 3 and 3", METERS_3_3);
-    of_24(b"accept, meters 3 and 4", METERS_3_4);
+    transaction(
+        b"accept, meter 256",
+        b"\x64\0\0\0\0\0\0\0\0\x01\x01\0\x07\0\0\0",
+    );
+    transaction(
+        b"accept, meter 255",
+        b"\x64\0\0\0\0\0\0\0\xff\0\x01\0\x07\0\0\0",
+    );
+    transaction(b"accept, code 0", b"\x64\0\0\0\0\0\0\0\0\0\0\0\x07\0\0\0");
+    transaction(b"accept, code 5", b"\x64\0\0\0\0\0\0\0\0\0\x05\0\x07\0\0\0");
+    transaction(b"accept, code 4", b"\x64\0\0\0\0\0\0\0\0\0\x04\0\x07\0\0\0");
+    transaction(
+        b"accept, 1 for the zero",
+        b"\x64\0\0\0\0\0\0\0\0\0\x01\x01\x07\0\0\0",
+    );
+}
+
+fn order() {
+    transaction(
+        b"accept, meters 3 and 3",
+        b"\x64\0\0\0\0\0\0\0\
+          \x03\0\x01\0\x07\0\0\0\
+          \x03\0\x01\0\x07\0\0\0",
+    );
+    transaction(
+        b"accept, meters 3 and 4",
+        b"\x64\0\0\0\0\0\0\0\
+          \x03\0\x01\0\x07\0\0\0\
+          \x04\0\x01\0\x07\0\0\0",
+    );
 }
 
 // ---- the lane (5)
@@ -234,6 +177,7 @@ pub fn cases() {
     overfull();
     writes();
     fields();
+    order();
     lanes();
     used();
     pointed();

@@ -6,26 +6,13 @@ use super::write;
 use collector::Collector;
 use protocol::Vault;
 
-const KEY_15: [u8; 15] = [7u8; 15];
-
-const KEY_17: [u8; 17] = [7u8; 17];
+fn keyed(name: &[u8], x: Vault, key: &[u8]) {
+    let h = Collector::load(x, key);
+    write::line(name, made::said(h));
+}
 
 fn loads(name: &[u8], x: Vault) {
-    let key = made::KEY;
-    let h = Collector::load(x, &key);
-    write::line(name, made::said(h));
-}
-
-fn loads_15(name: &[u8], x: Vault) {
-    let key = KEY_15;
-    let h = Collector::load(x, &key);
-    write::line(name, made::said(h));
-}
-
-fn loads_17(name: &[u8], x: Vault) {
-    let key = KEY_17;
-    let h = Collector::load(x, &key);
-    write::line(name, made::said(h));
+    keyed(name, x, b"sixteen of bytes");
 }
 
 // Load's rule for a lane (2).
@@ -57,14 +44,25 @@ fn maximum() {
 
 // The key (3).
 fn keys() {
-    loads_15(b"load, a key of 15 bytes", vault::new_vault());
-    loads(b"load, a key of 16 bytes", vault::new_vault());
-    loads_17(b"load, a key of 17 bytes", vault::new_vault());
-    loads_15(b"load, V above W and a key of 15 bytes", lane0(4, 5, 0));
+    let new = vault::new_vault();
+    keyed(b"load, a key of 15 bytes", new, b"sixteen of byte");
+    keyed(b"load, a key of 16 bytes", new, b"sixteen of bytes");
+    keyed(b"load, a key of 17 bytes", new, b"sixteen of bytes.");
+}
+
+// The lowest number first.
+fn lowest() {
+    let x = lane0(4, 5, 0);
+    keyed(
+        b"load, V above W and a key of 15 bytes",
+        x,
+        b"sixteen of byte",
+    );
 }
 
 pub fn cases() {
     rule();
     maximum();
     keys();
+    lowest();
 }
