@@ -4,16 +4,19 @@ use super::made::MAX;
 use super::write;
 use collector::Collector;
 
+// The line of an Accept of one write.
 fn one(name: &[u8], c: Collector, lane: u8, position: u64) {
     let h = made::accept_one(c, lane, position);
     write::line(name, made::said(h));
 }
 
+// Of 16 writes.
 fn sixteen(name: &[u8], c: Collector, lane: u8, position: u64) {
     let h = made::accept_16(c, lane, position);
     write::line(name, made::said(h));
 }
 
+// Of 17 writes.
 pub fn seventeen(name: &[u8], c: Collector, lane: u8, position: u64) {
     let h = made::accept_17(c, lane, position);
     write::line(name, made::said(h));
@@ -21,11 +24,13 @@ pub fn seventeen(name: &[u8], c: Collector, lane: u8, position: u64) {
 
 // ---- the condition, and what is due (1)
 
+// Cold, and in service.
 fn condition() {
     one(b"accept, a cold collector", made::cold(), 0, 10);
     one(b"accept, one in service", made::fresh(), 0, 10);
 }
 
+// While a record is due.
 fn due() {
     let h = made::accept_one(made::fresh(), 0, 10);
     one(b"accept, a record is due", made::left(h), 0, 11);
@@ -33,6 +38,7 @@ fn due() {
 
 // ---- a state that breaks a rule (1)
 
+// Load's rule.
 fn broken() {
     one(
         b"accept, V above W",
@@ -43,6 +49,7 @@ fn broken() {
     one(b"accept, V at W", made::served(made::lane0(5, 5, 0)), 0, 10);
 }
 
+// 128 records, 8 points.
 fn overfull() {
     let c = made::fresh();
     one(b"accept, 129 records listed", made::listing(c, 129), 0, 10);
@@ -59,6 +66,7 @@ fn transaction(name: &[u8], t: &[u8]) {
     write::line(name, made::said(h));
 }
 
+// 1 to 16 writes.
 fn writes() {
     transaction(b"accept, no write", b"\x64\0\0\0\0\0\0\0");
     transaction(
@@ -73,6 +81,7 @@ fn writes() {
     sixteen(b"accept, 16 writes", made::fresh(), 0, 10);
 }
 
+// Meter, code and zero.
 fn fields() {
     transaction(
         b"accept, meter 256",
@@ -91,6 +100,7 @@ fn fields() {
     );
 }
 
+// Meters strictly ascend.
 fn order() {
     transaction(
         b"accept, meters 3 and 3",
@@ -108,6 +118,7 @@ fn order() {
 
 // ---- the lane (5)
 
+// Lanes 0 to 7.
 fn lanes() {
     one(b"accept, lane 8", made::fresh(), 8, 10);
     one(b"accept, lane 7", made::fresh(), 7, 10);
@@ -115,12 +126,14 @@ fn lanes() {
 
 // ---- the position (6)
 
+// Above every position used.
 fn used() {
     let s = made::put(made::fresh(), 0, 10);
     one(b"accept, at the last position", made::behind(s), 0, 10);
     one(b"accept, above the last position", made::behind(s), 0, 11);
 }
 
+// Above the newest point.
 fn pointed() {
     let c = made::pointing(made::fresh(), 10);
     one(b"accept, at the newest point", c, 0, 10);
@@ -129,6 +142,7 @@ fn pointed() {
 
 // ---- the list (7)
 
+// At most 128 records.
 fn full() {
     let c = made::fresh();
     one(b"accept, 128 records listed", made::listing(c, 128), 0, 10);
@@ -137,6 +151,7 @@ fn full() {
 
 // ---- the counter (8)
 
+// W at the maximum.
 fn spent() {
     let last = made::lane0(MAX, 0, 0);
     one(b"accept, W at the maximum", made::served(last), 0, 10);
@@ -146,6 +161,7 @@ fn spent() {
 
 // ---- the lowest number first
 
+// 1 before 4, 4 before 5, 5 before 6.
 fn first() {
     seventeen(
         b"accept, a cold collector and 17 writes",
@@ -158,6 +174,7 @@ fn first() {
     one(b"accept, lane 8 and at the newest point", c, 8, 10);
 }
 
+// 7 before 8, 6 before both.
 fn then() {
     let c = made::listing(made::served(made::lane0(MAX, 0, 0)), 128);
     one(b"accept, 128 records listed and W at the maximum", c, 0, 10);
@@ -170,6 +187,7 @@ fn then() {
     );
 }
 
+// Accept's lines.
 pub fn cases() {
     condition();
     due();

@@ -3,21 +3,25 @@ use super::made;
 use super::write;
 use collector::Collector;
 
+// The line of a Commit of 56 bytes.
 fn commits(name: &[u8], c: Collector, bytes: [u8; 56]) {
     let h = made::commit_56(c, bytes);
     write::line(name, made::said(h));
 }
 
+// Of 55.
 fn commits_55(name: &[u8], c: Collector, bytes: [u8; 55]) {
     let h = c.commit(&bytes);
     write::line(name, made::said(h));
 }
 
+// Of 57.
 fn commits_57(name: &[u8], c: Collector, bytes: [u8; 57]) {
     let h = c.commit(&bytes);
     write::line(name, made::said(h));
 }
 
+// Of none.
 fn commits_none(name: &[u8], c: Collector) {
     let h = c.commit(b"");
     write::line(name, made::said(h));
@@ -50,11 +54,17 @@ fn first() -> [u8; 56] {
     made::bytes_of(s)
 }
 
-// The condition, and what is due (1).
+// A collector that takes it.
+fn waiting() -> Collector {
+    made::served(made::lane0(1, 0, 0))
+}
+
+// The condition (1).
 fn condition() {
     commits(b"commit, a cold collector", made::cold(), first());
 }
 
+// While a record is due (1).
 fn due() {
     let h = made::accept_one(made::fresh(), 0, 10);
     commits(b"commit, a record is due", made::left(h), first());
@@ -62,20 +72,20 @@ fn due() {
 
 // V + 1.
 fn next() {
-    let s = made::put(made::fresh(), 0, 10);
-    commits(b"commit, V + 1", made::behind(s), made::bytes_of(s));
+    commits(b"commit, V + 1", waiting(), first());
 }
 
 // Bytes that do not open (9).
 fn closed() {
-    commits_none(b"commit, no bytes", made::fresh());
-    commits_55(b"commit, a byte short", made::fresh(), shorter(first()));
-    commits_57(b"commit, a byte long", made::fresh(), longer(first()));
+    commits_none(b"commit, no bytes", waiting());
+    commits_55(b"commit, a byte short", waiting(), shorter(first()));
+    commits_57(b"commit, a byte long", waiting(), longer(first()));
 }
 
+// A tag that is not right (9).
 fn forged() {
     let b = changed(first());
-    commits(b"commit, a bit changed", made::fresh(), b);
+    commits(b"commit, a bit changed", waiting(), b);
 }
 
 // The epoch (10).
@@ -84,17 +94,19 @@ fn epoch() {
     commits(b"commit, another epoch", made::served(x), first());
 }
 
-// The number (11).
+// V itself (11).
 fn again() {
     let x = made::lane0(1, 1, 0);
     commits(b"commit, V itself", made::served(x), first());
 }
 
+// V + 2 (11).
 fn skipped() {
-    let s = made::put(made::served(made::lane0(1, 0, 0)), 0, 10);
+    let s = made::put(waiting(), 0, 10);
     commits(b"commit, V + 2", made::behind(s), made::bytes_of(s));
 }
 
+// V + 1, above W (11).
 fn unknown() {
     commits(b"commit, above W", made::fresh(), first());
 }
@@ -110,6 +122,7 @@ fn lowest() {
     );
 }
 
+// Commit's lines.
 pub fn cases() {
     condition();
     due();

@@ -6,11 +6,13 @@ use super::write;
 use collector::Collector;
 use protocol::Vault;
 
+// The line of a Load with a key.
 fn keyed(name: &[u8], x: Vault, key: &[u8]) {
     let h = Collector::load(x, key);
     write::line(name, made::said(h));
 }
 
+// The line of a Load with a key of 16 bytes.
 fn loads(name: &[u8], x: Vault) {
     keyed(name, x, b"sixteen of bytes");
 }
@@ -60,6 +62,7 @@ fn lowest() {
     );
 }
 
+// Load's lines.
 pub fn cases() {
     rule();
     maximum();

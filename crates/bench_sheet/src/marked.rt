@@ -21,6 +21,7 @@ fn shows(first: u8, second: u8) -> u64 {
     e.lane as u64
 }
 
+// M1: 56 bytes, 176 bytes, 4.
 fn m1() {
     let one = made::accept_one(made::fresh(), 0, 10);
     seal::room_176(b"M1 one write", made::left(one));
@@ -29,6 +30,7 @@ fn m1() {
     accept::seventeen(b"M1 17 writes", made::fresh(), 0, 10);
 }
 
+// M10: lane 5, whichever came first.
 fn m10() {
     write::counted(
         b"M10 lane 2 number 7, then lane 5 number 1, shows lane",
@@ -40,6 +42,7 @@ fn m10() {
     );
 }
 
+// The lines of the marked cases.
 pub fn cases() {
     m1();
     m10();

@@ -3,24 +3,28 @@ use super::made;
 use super::write;
 use collector::Collector;
 
+// The line of a Seal with room for 55 bytes.
 fn room_55(name: &[u8], c: Collector) {
     let mut out = [0u8; 55];
     let h = c.seal(&mut out);
     write::line(name, made::said(h));
 }
 
+// For 56.
 fn room_56(name: &[u8], c: Collector) {
     let mut out = [0u8; 56];
     let h = c.seal(&mut out);
     write::line(name, made::said(h));
 }
 
+// For 175.
 fn room_175(name: &[u8], c: Collector) {
     let mut out = [0u8; 175];
     let h = c.seal(&mut out);
     write::line(name, made::said(h));
 }
 
+// For 176, the longest record.
 pub fn room_176(name: &[u8], c: Collector) {
     let mut out = [0u8; 176];
     let h = c.seal(&mut out);
@@ -46,6 +50,7 @@ fn one() {
     room_56(b"seal, one write, room for 56", made::left(h));
 }
 
+// The room for 16 writes (3).
 fn sixteen() {
     let h = made::accept_16(made::fresh(), 0, 10);
     room_175(b"seal, 16 writes, room for 175", made::left(h));
@@ -59,26 +64,31 @@ fn lowest() {
 
 // ---- the buffer: what stood there was 165
 
+// A lent buffer of 55 bytes, behind Seal.
 fn fill_55(c: Collector) -> [u8; 55] {
     let mut out = [165u8; 55];
     c.seal(&mut out);
     out
 }
 
+// One of 57.
 fn fill_57(c: Collector) -> [u8; 57] {
     let mut out = [165u8; 57];
     c.seal(&mut out);
     out
 }
 
+// Its first byte.
 fn first_of_55(b: [u8; 55]) -> u64 {
     b[0] as u64
 }
 
+// Its first byte.
 fn first_of_57(b: [u8; 57]) -> u64 {
     b[0] as u64
 }
 
+// Its last byte.
 fn last_of_57(b: [u8; 57]) -> u64 {
     b[56] as u64
 }
@@ -93,6 +103,7 @@ fn buffer() {
     write::counted(b"seal, room for 57, byte 56", last_of_57(long));
 }
 
+// Seal's lines.
 pub fn cases() {
     due();
     twice();
