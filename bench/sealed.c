@@ -6,8 +6,10 @@
    the boundary as its text, so a checkpoint's times hold reading that text
    before sealing, and writing it after opening.  The fifth row enters the
    transactions of a full log into a table; the cipher's time beside it is that
-   of opening them.  The last runs transactions through the collector, each
-   accepted, sealed and committed; beside it each is sealed and opened. */
+   of opening them.  The last three run the collector: transactions, each
+   accepted, sealed and committed, beside sealing and opening each; checkpoints
+   in their three calls, beside sealing a file; the call of Recover that reads a
+   checkpoint and a full log, beside opening the file and the records. */
 
 #define _POSIX_C_SOURCE 199309L
 
@@ -26,6 +28,8 @@ enum {
     METERS = 256, ENTRY = 24, TABLE = METERS * ENTRY, FILE_LEN = TABLE + FRAME,
     LOG = 1489,                         /* so many such records fill a log of 262,144 bytes */
     LISTED = 128,                       /* so many records are listed before a point is needed */
+    FILES = 8,                          /* so many checkpoints at a time */
+    VERSION = 8,                        /* the version of the file that is recovered from */
     ROUNDS = 25
 };
 
@@ -35,7 +39,8 @@ static struct cipher_key key;
 static uint8_t text[TEXT], record[RECORD], record_text[TEXT];
 static uint8_t table[TABLE], file[FILE_LEN], file_table[TABLE];
 static uint8_t bare_record[TEXT + TAG], bare_file[TABLE + TAG];
-static uint8_t texts[LOG * TEXT];
+static uint8_t texts[LOG * TEXT], log_bytes[LOG * RECORD];
+static uint8_t key_bytes[KEY];
 static uint8_t record_nonce[NONCE] = { 1, 3, 0, 0, 2, 1 }, file_nonce[NONCE] = { 2, 0, 0, 0, 9 };
 
 static void check(int right, const char *what)
@@ -60,7 +65,7 @@ static int open_record(void)
 
 static int seal_file(void)
 {
-    return sealed_put_file(key.schedule, key.multiples, 8, 9, table, TABLE, file, FILE_LEN) == SEALED_DONE;
+    return sealed_put_file(key.schedule, key.multiples, VERSION, 9, table, TABLE, file, FILE_LEN) == SEALED_DONE;
 }
 
 static int open_file(void)
@@ -76,6 +81,16 @@ static int enter_log(void)
 static int transact(void)
 {
     return collector_transactions(text, TEXT, LISTED) == LISTED;
+}
+
+static int checkpoints(void)
+{
+    return collector_checkpoints(text, TEXT, FILES) == FILES;
+}
+
+static int recover(void)
+{
+    return collector_recover(key_bytes, KEY, file, FILE_LEN, log_bytes, sizeof log_bytes, LOG, VERSION) == 1;
 }
 
 /* ---- the cipher's part of it ---- */
@@ -120,6 +135,19 @@ static int bare_transact(void)
     return done == LISTED;
 }
 
+static int bare_checkpoints(void)
+{
+    int done = 0;
+    for (int i = 0; i < FILES; i++)
+        done += bare_seal_file();
+    return done == FILES;
+}
+
+static int bare_recover(void)
+{
+    return bare_open_file() && bare_open_log();
+}
+
 static struct row {
     const char *name;
     int (*work[2])(void);               /* the whole, and the cipher's part */
@@ -131,6 +159,8 @@ static struct row {
     { "open a checkpoint", { open_file, bare_open_file }, { 0, 0 } },
     { "enter a full log, beside opening it", { enter_log, bare_open_log }, { 0, 0 } },
     { "128 transactions", { transact, bare_transact }, { 0, 0 } },
+    { "8 checkpoints", { checkpoints, bare_checkpoints }, { 0, 0 } },
+    { "recover, a full log", { recover, bare_recover }, { 0, 0 } },
 };
 
 enum { ROWS = sizeof rows / sizeof rows[0] };
@@ -140,9 +170,8 @@ enum { ROWS = sizeof rows / sizeof rows[0] };
 /* A transaction of 16 writes, and a table in which every meter has a reading. */
 static void make_work(void)
 {
-    uint8_t bytes[KEY];
-    fill(bytes, KEY);
-    check(cipher_prepare(bytes, KEY, key.schedule, key.multiples) == CIPHER_DONE, "preparing a key");
+    fill(key_bytes, KEY);
+    check(cipher_prepare(key_bytes, KEY, key.schedule, key.multiples) == CIPHER_DONE, "preparing a key");
     fill(text, TEXT);
     for (int i = 0; i < WRITES; i++) {
         uint8_t *w = text + 8 + 8 * i;
@@ -155,6 +184,9 @@ static void make_work(void)
         memcpy(texts + i * TEXT, text, TEXT);
         memcpy(texts + i * TEXT, &i, sizeof i);
     }
+    for (uint64_t i = 0; i < LOG; i++)
+        check(sealed_put_record(key.schedule, key.multiples, 0, 0, i + 1, texts + i * TEXT, TEXT,
+                                log_bytes + i * RECORD, RECORD) == SEALED_DONE, "sealing a log");
     fill(table, TABLE);
     for (int i = 0; i < METERS; i++) {
         uint8_t *e = table + ENTRY * i;
