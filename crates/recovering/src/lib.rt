@@ -13,6 +13,9 @@ use protocol::State;
 pub mod go_on;
 pub mod start;
 
+// The most bytes of a log.
+pub const LOG_MAX: usize = 262144;
+
 // Recover: the first call of a cold collector looks at the checkpoint and the log; the later ones look at neither. It
 // refuses a collector in service and a state that breaks its rule (1), and what the call's own step refuses.
 pub fn recover(c: State, checkpoint: &[u8], log: &[u8], out: &mut [u8]) -> Answer

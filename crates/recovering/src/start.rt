@@ -10,6 +10,7 @@ ghost use Rattle.protocol.specs.Replay.{stopped};
 ghost use Rattle.protocol.specs.Recover.{spent, recoverFirst};
 ghost use Rattle.replay.specs.Rules.{readOf};
 ghost use Rattle.recovering.specs.From.{readFrom};
+use super::LOG_MAX;
 use protocol::Answer;
 use protocol::Due;
 use protocol::Phase;
@@ -23,8 +24,6 @@ use sealed::file::FileHead;
 use table::Table;
 use vault::COUNTER_MAX;
 
-// The most bytes of a log.
-pub const LOG_MAX: usize = 262144;
 // The most that S and N may be at recovery, which raises each of them twice.
 const RAISED_MAX: u64 = COUNTER_MAX - 2;
 
