@@ -6,7 +6,7 @@ use mathlib.Core.Bool.{Bool, true, false, not}
 use mathlib.Core.List.{List, [], _∷_}
 use native.Mathlib.Numerals.{add-one}
 use native.Mathlib.Omega.{arith}
-use borrow.Author.Tests.{le-leb, lt-leb, lt-ltb, le-ltb}
+use borrow.Author.Tests.{not-true, not-false, le-leb, lt-leb, lt-ltb, le-ltb}
 use lib.ListN.{length}
 use Rattle.octets.specs.Lists.{at}
 use Rattle.gcm.specs.Answers.{putOver}
@@ -35,17 +35,17 @@ next-r x lane h =
     let e : suc lane < 8 = omega arith in
     rw (lt-ltb (suc lane) 8 e, add-one lane)
 
-pub last-r-empty : (x : Vault) (lane : ℕ) → 7 ≤ lane → {b : Bool} → b ≡ allVisible x → b ≡ true → D.RecoverEmpty ≡ afterR x lane
+pub last-r-epoch : (x : Vault) (lane : ℕ) → 7 ≤ lane → {b : Bool} → b ≡ allVisible x → not b ≡ true → D.RecoverEpoch ≡ afterR x lane
 unfolding afterR
-last-r-empty x lane h eb t =
+last-r-epoch x lane h {b} eb t =
     let e : 8 ≤ suc lane = omega arith in
-    rw (le-ltb (suc lane) 8 e, ← eb, t)
+    rw (le-ltb (suc lane) 8 e, ← eb, not-true b t)
 
-pub last-r-epoch : (x : Vault) (lane : ℕ) → 7 ≤ lane → {b : Bool} → b ≡ allVisible x → b ≡ false → D.RecoverEpoch ≡ afterR x lane
+pub last-r-empty : (x : Vault) (lane : ℕ) → 7 ≤ lane → {b : Bool} → b ≡ allVisible x → not b ≡ false → D.RecoverEmpty ≡ afterR x lane
 unfolding afterR
-last-r-epoch x lane h eb t =
+last-r-empty x lane h {b} eb t =
     let e : 8 ≤ suc lane = omega arith in
-    rw (le-ltb (suc lane) 8 e, ← eb, t)
+    rw (le-ltb (suc lane) 8 e, ← eb, not-false b t)
 
 pub next-v : (lane : ℕ) → lane < 7 → D.RecoverV (lane + 1) ≡ afterV lane
 unfolding afterV

@@ -51,10 +51,10 @@ fn after_r(x: Vault, lane: u8) -> Due
         let next = lane + 1;
         return Due::RecoverR { lane: next };
     }
-    if all_visible(x) {
-        return Due::RecoverEmpty;
+    if !all_visible(x) {
+        return Due::RecoverEpoch;
     }
-    Due::RecoverEpoch
+    Due::RecoverEmpty
 }
 
 // Behind V of a lane: V of the next, and behind the last the emptying.
