@@ -3,7 +3,7 @@
 use Prim.Native.Nat.{ℕ, suc, _+_, _≤_, _<_}
 use mathlib.Core.Path.{_≡_, refl, sym, ap, subst, _∙_}
 use mathlib.Core.Bool.{Bool, true, false, not}
-use mathlib.Core.List.{List, [], _∷_}
+use mathlib.Core.List.{List, []}
 use native.Mathlib.Numerals.{add-one}
 use native.Mathlib.Omega.{arith}
 use borrow.Author.Tests.{not-true, not-false, le-leb, lt-leb, lt-ltb, le-ltb}
@@ -13,7 +13,7 @@ use Rattle.gcm.specs.Answers.{putOver}
 use Rattle.protocol.specs.Vaults.{counterMax, setV, setR, setE}
 use Rattle.protocol.specs.States.{noJournal, noPoints, valid, withVault}
 use Rattle.protocol.specs.Said.{Answered, refuse, refusing, numberOf, valuesOf, shown, shownAs}
-use Rattle.protocol.specs.Recover.{afterVersion, allVisible, afterR, afterV, inService, recoverFirst, recoverDue, recoverPhase, recover}
+use Rattle.protocol.specs.Recover.{allVisible, afterR, afterV, inService, recoverFirst, recoverDue, recoverPhase, recover}
 use Rattle.protocol.specs.declared.Vault.{Vault}
 use Rattle.protocol.specs.declared.State.{State}
 use Rattle.protocol.specs.declared.Answer.{Answer}

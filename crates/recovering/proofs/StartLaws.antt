@@ -1,7 +1,7 @@
 -- Each way out of Recover's first call (01, Operations) is the definition's: the test of a spent counter, what is read of the checkpoint and the
 -- log, and the answers.
 -- Assumes nothing.
-use Prim.Native.Nat.{ℕ, zero, suc, _+_, _≤_, _<_}
+use Prim.Native.Nat.{ℕ, suc, _+_, _≤_, _<_}
 use mathlib.Core.Path.{_≡_, refl, sym, ap, ap₂, _∙_}
 use mathlib.Core.Bool.{Bool, true, false, cond, not, _&&_, _||_}
 use mathlib.Core.List.{List, [], _∷_}
@@ -25,7 +25,7 @@ use Rattle.sealed.specs.declared.file.FileRead.{FileRead}
 use Rattle.sealed.proofs.FileLaws.{prepared-file}
 use Rattle.protocol.specs.Vaults.{counterMax, setN}
 use Rattle.protocol.specs.States.{valid, isNothing}
-use Rattle.protocol.specs.Said.{Answered, refuse, numberOf, valuesOf, shown, shownAs}
+use Rattle.protocol.specs.Said.{refuse, numberOf, valuesOf, shown, shownAs}
 use Rattle.protocol.specs.Replay.{Read, stopped, orStop, replay}
 use Rattle.protocol.specs.Recover.{logMax, spent, recovered, recoverRead, recoverLog, otherVersion, recoverFile, recoverFrom, recoverFirst}
 use Rattle.protocol.specs.declared.Vault.{Vault}
