@@ -21,7 +21,6 @@ use protocol::Vault;
 use replay::LogEnd;
 use replay::LogRead;
 use sealed::file::FileHead;
-use table::Table;
 use vault::COUNTER_MAX;
 
 // The most that S and N may be at recovery, which raises each of them twice.
@@ -35,15 +34,16 @@ pub fn spent(x: Vault) -> bool
 }
 
 // A reading that was turned down.
-fn turned_down(x: Vault, t: Table, why: Refusal) -> LogRead
+fn turned_down(x: Vault, why: Refusal) -> LogRead
     ensures { λ r. ⌜ readOf r ≡ stopped (numberOf why) (valuesOf why) ⌝ }
 {
     let last = x.r;
+    let table = table::empty();
     LogRead {
         end: LogEnd::Stopped { why },
         offset: 0,
         last,
-        table: t,
+        table,
     }
 }
 
@@ -60,23 +60,22 @@ fn read_under<'a>(
 {
     let s = x.s;
     if s == 0 {
-        let none = table::empty();
         if checkpoint.len() != 0 {
-            return turned_down(x, none, Refusal::Closed { offset: 0 });
+            return turned_down(x, Refusal::Closed { offset: 0 });
         }
+        let none = table::empty();
         return replay::replay(w, m, x, none, log);
     }
     let file = sealed::file::open_file(w, m, checkpoint);
-    let t = file.table;
     let head = file.head;
     match head {
         FileHead::File { version, seal } => {
             if version != s {
-                return turned_down(x, t, Refusal::Version);
+                return turned_down(x, Refusal::Version);
             }
-            replay::replay(w, m, x, t, log)
+            replay::replay(w, m, x, file.table, log)
         }
-        FileHead::Closed => turned_down(x, t, Refusal::Closed { offset: 0 }),
+        FileHead::Closed => turned_down(x, Refusal::Closed { offset: 0 }),
     }
 }
 
