@@ -1,3 +1,2 @@
--- CoverLaws: the loop that covers the points. PathLaws: each way out of Checkpoint is the definition's.
-pub mod CoverLaws
+-- PathLaws: each way out of Checkpoint is the definition's.
 pub mod PathLaws

@@ -5,13 +5,10 @@ ghost use mathlib.Core.List.{[]};
 ghost use lib.ListN.{length};
 ghost use Rattle.gcm.specs.Answers.{putOver};
 ghost use Rattle.protocol.specs.Said.{shownAs};
-ghost use Rattle.protocol.specs.Checkpoint.{coveredPoint, coveredPoints, checkpoint};
+ghost use Rattle.protocol.specs.Checkpoint.{checkpoint};
 ghost use Rattle.checkpointing.specs.Parts.{partOf, firstCall, lastCall};
-use journal::POINTS;
 use protocol::Answer;
 use protocol::Due;
-use protocol::Point;
-use protocol::Points;
 use protocol::Refusal;
 use protocol::State;
 use vault::COUNTER_MAX;
@@ -45,32 +42,6 @@ fn part_of(due: Due) -> Part
     }
 }
 
-// A point that a checkpoint covers.
-fn covered_point(p: Point) -> Point
-    ensures { λ r. ⌜ r ≡ coveredPoint p ⌝ }
-{
-    let mut next = p;
-    next.covered = true;
-    next
-}
-
-// The points, each of them covered.
-fn covered_points(p: Points) -> Points
-    ensures { λ r. ⌜ r ≡ coveredPoints p ⌝ }
-{
-    let mut items = p.items;
-    let mut i: usize = 0;
-    while i < POINTS {
-        let old = items[i];
-        let new = covered_point(old);
-        items[i] = new;
-        i += 1;
-    }
-    let mut next = p;
-    next.items = items;
-    next
-}
-
 // The call that names N. It refuses an S or N at the maximum (8).
 fn first_call(c: State) -> Answer
     ensures { λ r. ⌜ shownAs r [] ≡ firstCall c ⌝ }
@@ -91,7 +62,7 @@ fn last_call(c: State) -> Answer
         return handed::refused(c, Refusal::Condition);
     }
     let p = c.points;
-    let points = covered_points(p);
+    let points = journal::points::covered_points(p);
     let mut next = c;
     next.points = points;
     filing::version_step(next, Due::Nothing)
