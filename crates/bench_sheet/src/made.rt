@@ -192,3 +192,37 @@ pub fn bytes_of(s: Stored) -> [u8; 56] {
     let b = s.bytes;
     b
 }
+
+// A transaction of one write, accepted, sealed and committed.
+pub fn seen(c: Collector, lane: u8, position: u64) -> Collector {
+    let s = put(c, lane, position);
+    let h = commit_56(behind(s), bytes_of(s));
+    left(h)
+}
+
+// ---- checkpoints
+
+// A call of a checkpoint that puts no file out: the first, behind which the file is due, and the last.
+pub fn filing(c: Collector) -> Collector {
+    let mut out = [0u8; 1];
+    let h = c.checkpoint(&mut out);
+    left(h)
+}
+
+// The file, where it is due.
+fn file_due(c: Collector) -> Collector {
+    let mut out = [0u8; 6184];
+    let h = c.checkpoint(&mut out);
+    left(h)
+}
+
+// The three calls of a checkpoint.
+pub fn filed(c: Collector) -> Collector {
+    filing(file_due(filing(c)))
+}
+
+// The first call of Truncate: R of lane 1 is due.
+pub fn truncating(c: Collector, position: u64) -> Collector {
+    let h = c.truncate(position);
+    left(h)
+}

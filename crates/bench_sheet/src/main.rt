@@ -2,11 +2,14 @@
 // just outside, and the marked cases of the bench sheet (M) that are calls. A line a case: its name, and what the call
 // answered: the store that it named and the bytes that it put out, or the number on the display and the value beside it.
 mod accept;
+mod checkpoint;
 mod commit;
 mod load;
 mod made;
 mod marked;
+mod point;
 mod seal;
+mod truncate;
 mod write;
 
 fn main() {
@@ -14,5 +17,8 @@ fn main() {
     accept::cases();
     seal::cases();
     commit::cases();
+    point::cases();
+    checkpoint::cases();
+    truncate::cases();
     marked::cases();
 }

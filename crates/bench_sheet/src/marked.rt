@@ -3,20 +3,12 @@ use super::accept;
 use super::made;
 use super::seal;
 use super::write;
-use collector::Collector;
-
-// A record of one write, put and committed.
-fn seen(c: Collector, lane: u8, position: u64) -> Collector {
-    let s = made::put(c, lane, position);
-    let h = made::commit_56(made::behind(s), made::bytes_of(s));
-    made::left(h)
-}
 
 // Stamp 100 on one lane, then on another: the lane that meter 0 shows. Lane 2 is at number 7, the others at 1.
 fn shows(first: u8, second: u8) -> u64 {
     let x = vault::set_w(vault::new_vault(), 2, 6);
     let c = made::served(vault::set_v(x, 2, 6));
-    let d = seen(seen(c, first, 10), second, 20);
+    let d = made::seen(made::seen(c, first, 10), second, 20);
     let e = d.reading(0);
     e.lane as u64
 }

@@ -1,0 +1,116 @@
+// Truncate at a covered point, in nine calls: R of lanes 0 to 7, and the deletion. It can return 1 and 14.
+use super::checkpoint;
+use super::made;
+use super::write;
+use collector::Collector;
+
+// A call, and the collector behind it.
+fn call(name: &[u8], c: Collector, position: u64) -> Collector {
+    let h = c.truncate(position);
+    write::line(name, made::said(h));
+    made::left(h)
+}
+
+// One with visible records of lane 0 at 10 and of lane 3 at 20, where lane 5 handed out 4 numbers before.
+fn two_seen() -> Collector {
+    let x = vault::set_w(vault::new_vault(), 5, 4);
+    let c = made::served(vault::set_v(x, 5, 4));
+    made::seen(made::seen(c, 0, 10), 3, 20)
+}
+
+// The same with a point at 21.
+fn pointed() -> Collector {
+    let c = two_seen();
+    let h = c.point(21);
+    made::left(h)
+}
+
+// The same, the point covered.
+fn covered() -> Collector {
+    made::filed(pointed())
+}
+
+// The same with a point at 30 that is not covered.
+fn pointed_again() -> Collector {
+    let c = covered();
+    let h = c.point(30);
+    made::left(h)
+}
+
+// The condition, and what is due (1).
+fn condition() {
+    call(b"truncate, a cold collector", made::cold(), 21);
+}
+
+fn due() {
+    let h = made::accept_one(covered(), 0, 30);
+    call(b"truncate, a record is due", made::left(h), 21);
+}
+
+fn filing() {
+    let c = made::filing(covered());
+    call(b"truncate, a checkpoint is due", c, 21);
+}
+
+// The point (14).
+fn none() {
+    call(b"truncate, no point", made::fresh(), 21);
+}
+
+fn bare() {
+    call(b"truncate, a point not covered", pointed(), 21);
+}
+
+fn other() {
+    call(b"truncate, beside a covered point", covered(), 20);
+}
+
+fn later() {
+    let c = pointed_again();
+    call(b"truncate, a point set behind the checkpoint", c, 30);
+    call(b"truncate, a point set before the checkpoint", c, 21);
+}
+
+// Another position, or another call, while going on (1).
+fn going() {
+    let d = made::truncating(covered(), 21);
+    call(b"truncate, call 2 at another position", d, 22);
+    checkpoint::call(b"checkpoint, R of lane 1 is due", d);
+}
+
+// The nine calls.
+fn lanes_0_3() -> Collector {
+    let c = call(b"truncate, call 1", covered(), 21);
+    let d = call(b"truncate, call 2", c, 21);
+    let e = call(b"truncate, call 3", d, 21);
+    call(b"truncate, call 4", e, 21)
+}
+
+fn lanes_4_7(c: Collector) -> Collector {
+    let d = call(b"truncate, call 5", c, 21);
+    let e = call(b"truncate, call 6", d, 21);
+    let f = call(b"truncate, call 7", e, 21);
+    call(b"truncate, call 8", f, 21)
+}
+
+fn deletion(c: Collector) {
+    call(b"truncate, call 9 at another position", c, 22);
+    let d = call(b"truncate, call 9", c, 21);
+    call(b"truncate, the point dropped", d, 21);
+}
+
+fn calls() {
+    deletion(lanes_4_7(lanes_0_3()));
+}
+
+pub fn cases() {
+    condition();
+    due();
+    filing();
+    none();
+    bare();
+    other();
+    later();
+    going();
+    calls();
+}
