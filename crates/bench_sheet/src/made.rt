@@ -24,10 +24,15 @@ pub fn lane0(w: u64, v: u64, r: u64) -> Vault {
 
 // ---- collectors
 
-// A cold one.
-pub fn cold() -> Collector {
-    let state = loading::loaded(vault::new_vault(), KEY);
+// A cold one with these vault numbers.
+pub fn cold_with(x: Vault) -> Collector {
+    let state = loading::loaded(x, KEY);
     Collector { state }
+}
+
+// A cold one with a new vault.
+pub fn cold() -> Collector {
+    cold_with(vault::new_vault())
 }
 
 // One in service with these vault numbers.
@@ -200,6 +205,20 @@ pub fn seen(c: Collector, lane: u8, position: u64) -> Collector {
     left(h)
 }
 
+// The next record of a lane of a collector in service with these vault numbers.
+pub fn next(x: Vault, lane: u8) -> [u8; 56] {
+    let s = put(served(x), lane, 10);
+    bytes_of(s)
+}
+
+// Two records end to end.
+pub fn joined(a: [u8; 56], b: [u8; 56]) -> [u8; 112] {
+    let mut log = [0u8; 112];
+    octets::copy(&a, &mut log);
+    octets::copy(&b, &mut log[56..]);
+    log
+}
+
 // ---- checkpoints
 
 // A call of a checkpoint that puts no file out: the first, behind which the file is due, and the last.
@@ -225,4 +244,12 @@ pub fn filed(c: Collector) -> Collector {
 pub fn truncating(c: Collector, position: u64) -> Collector {
     let h = c.truncate(position);
     left(h)
+}
+
+// The file of a checkpoint.
+pub fn file_of(c: Collector) -> [u8; 6184] {
+    let d = filing(c);
+    let mut out = [0u8; 6184];
+    d.checkpoint(&mut out);
+    out
 }

@@ -8,6 +8,7 @@ mod load;
 mod made;
 mod marked;
 mod point;
+mod recover;
 mod seal;
 mod truncate;
 mod write;
@@ -20,5 +21,6 @@ fn main() {
     point::cases();
     checkpoint::cases();
     truncate::cases();
+    recover::cases();
     marked::cases();
 }
