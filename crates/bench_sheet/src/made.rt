@@ -219,6 +219,22 @@ pub fn joined(a: [u8; 56], b: [u8; 56]) -> [u8; 112] {
     log
 }
 
+// Three records end to end.
+pub fn joined_3(a: [u8; 112], b: [u8; 56]) -> [u8; 168] {
+    let mut log = [0u8; 168];
+    octets::copy(&a, &mut log);
+    octets::copy(&b, &mut log[112..]);
+    log
+}
+
+// Four records end to end.
+pub fn joined_4(a: [u8; 112], b: [u8; 112]) -> [u8; 224] {
+    let mut log = [0u8; 224];
+    octets::copy(&a, &mut log);
+    octets::copy(&b, &mut log[112..]);
+    log
+}
+
 // ---- checkpoints
 
 // A call of a checkpoint that puts no file out: the first, behind which the file is due, and the last.

@@ -1,8 +1,12 @@
-// The marked cases of the bench sheet that are calls: M1 and M10.
+// The marked cases of the bench sheet that are calls: M1 and M4 to M12.
 use super::accept;
 use super::made;
+use super::made::MAX;
+use super::made::lane0;
+use super::recover;
 use super::seal;
 use super::write;
+use collector::Collector;
 
 // Stamp 100 on one lane, then on another: the lane that meter 0 shows. Lane 2 is at number 7, the others at 1.
 fn shows(first: u8, second: u8) -> u64 {
@@ -22,6 +26,52 @@ fn m1() {
     accept::seventeen(b"M1 17 writes", made::fresh(), 0, 10);
 }
 
+// The record behind number w of lane 0.
+fn behind(w: u64) -> [u8; 56] {
+    made::next(lane0(w, 0, 0), 0)
+}
+
+// Records 4 and 5.
+fn log_4_5() -> [u8; 112] {
+    made::joined(behind(3), behind(4))
+}
+
+fn m4() {
+    recover::log_112(b"M4 R 3, V 5, log 4 5", lane0(5, 5, 3), log_4_5());
+}
+
+fn m5() {
+    let log = made::joined(behind(4), behind(3));
+    recover::log_112(b"M5 R 3, V 5, log 5 4", lane0(5, 5, 3), log);
+}
+
+fn m6() {
+    recover::log_56(b"M6 R 3, V 5, log 4", lane0(5, 5, 3), behind(3));
+}
+
+fn m7() {
+    let log = made::joined_3(made::joined(behind(3), behind(3)), behind(4));
+    recover::log_168(b"M7 R 3, V 5, log 4 4 5", lane0(5, 5, 3), log);
+}
+
+fn log_3_6() -> [u8; 224] {
+    let first = made::joined(behind(2), behind(3));
+    let second = made::joined(behind(4), behind(5));
+    made::joined_4(first, second)
+}
+
+fn m8() {
+    let h = recover::first_224(lane0(6, 5, 3), log_3_6());
+    write::line(b"M8 R 3, V 5, log 3 4 5 6", made::said(h));
+    let c = made::left(h);
+    let e = c.reading(0);
+    write::counted(b"M8 meter 0 shows number", e.number);
+}
+
+fn m9() {
+    recover::bare(b"M9 R 5, V 3, W 5, empty log", lane0(5, 3, 5));
+}
+
 // M10: lane 5, whichever came first.
 fn m10() {
     write::counted(
@@ -34,8 +84,66 @@ fn m10() {
     );
 }
 
+// A point, and the collector behind it.
+fn points(name: &[u8], c: Collector, position: u64) -> Collector {
+    let h = c.point(position);
+    write::line(name, made::said(h));
+    made::left(h)
+}
+
+// How many numbers of lane 0 a point counts.
+fn counts(c: Collector, position: u64) -> u64 {
+    let p = c.state.points;
+    let q = journal::points::find_point(p, position);
+    let point = q.point;
+    let counts = point.counts;
+    counts[0]
+}
+
+fn seen() -> Collector {
+    made::seen(made::seen(made::fresh(), 0, 10), 0, 20)
+}
+
+fn m11_20() -> Collector {
+    let c = points(b"M11 point 20", seen(), 20);
+    write::counted(b"M11 point 20 counts", counts(c, 20));
+    c
+}
+
+fn m11_21() -> Collector {
+    let c = points(b"M11 point 21", m11_20(), 21);
+    write::counted(b"M11 point 21 counts", counts(c, 21));
+    c
+}
+
+fn m11() {
+    let c = m11_21();
+    points(b"M11 point 21 again", c, 21);
+    points(b"M11 point 22", c, 22);
+}
+
+fn m12() {
+    let new = vault::new_vault();
+    recover::bare(
+        b"M12 S at the maximum less 2, no checkpoint",
+        vault::set_s(new, MAX - 2),
+    );
+    recover::bare(
+        b"M12 S at the maximum less 1, no checkpoint",
+        vault::set_s(new, MAX - 1),
+    );
+}
+
 // The lines of the marked cases.
 pub fn cases() {
     m1();
+    m4();
+    m5();
+    m6();
+    m7();
+    m8();
+    m9();
     m10();
+    m11();
+    m12();
 }

@@ -144,6 +144,24 @@ fn service() {
     write::line(b"recover, one in service", made::said(h));
 }
 
+// ---- the log's length (3)
+
+fn longest() {
+    let c = made::cold();
+    let log = [0u8; 262144];
+    let mut out = [0u8; 1];
+    let h = c.recover(b"", &log, &mut out);
+    write::line(b"recover, a log of 262144 bytes, zeros", made::said(h));
+}
+
+fn too_long() {
+    let c = made::cold();
+    let log = [0u8; 262145];
+    let mut out = [0u8; 1];
+    let h = c.recover(b"", &log, &mut out);
+    write::line(b"recover, a log of 262145 bytes, zeros", made::said(h));
+}
+
 // ---- the counters (8)
 
 fn version() {
@@ -298,9 +316,138 @@ fn before_next() {
     );
 }
 
+// ---- whole recoveries
+
+// A later call, which looks at neither checkpoint nor log, and the collector behind it.
+fn later(name: &[u8], k: u64, c: Collector) -> Collector {
+    let mut out = [0u8; 6184];
+    let h = c.recover(b"", b"", &mut out);
+    write::call(name, k, made::said(h));
+    made::left(h)
+}
+
+// The calls from one to another.
+fn calls_2_4(name: &[u8], c: Collector) -> Collector {
+    let d = later(name, 2, c);
+    let e = later(name, 3, d);
+    later(name, 4, e)
+}
+
+fn calls_5_8(name: &[u8], c: Collector) -> Collector {
+    let d = later(name, 5, c);
+    let e = later(name, 6, d);
+    let f = later(name, 7, e);
+    later(name, 8, f)
+}
+
+fn calls_9_12(name: &[u8], c: Collector) -> Collector {
+    let d = later(name, 9, c);
+    let e = later(name, 10, d);
+    let f = later(name, 11, e);
+    later(name, 12, f)
+}
+
+fn calls_13_15(name: &[u8], c: Collector) -> Collector {
+    let d = later(name, 13, c);
+    let e = later(name, 14, d);
+    later(name, 15, e)
+}
+
+fn calls_16_19(name: &[u8], c: Collector) -> Collector {
+    let d = later(name, 16, c);
+    let e = later(name, 17, d);
+    let f = later(name, 18, e);
+    later(name, 19, f)
+}
+
+fn calls_20_24(name: &[u8], c: Collector) -> Collector {
+    let d = later(name, 20, c);
+    let e = later(name, 21, d);
+    let f = later(name, 22, e);
+    let g = later(name, 23, f);
+    later(name, 24, g)
+}
+
+fn calls_5_15(name: &[u8], c: Collector) -> Collector {
+    let d = calls_5_8(name, c);
+    let e = calls_9_12(name, d);
+    calls_13_15(name, e)
+}
+
+// A call with no room for the file.
+fn room_6183(name: &[u8], c: Collector) {
+    let mut out = [0u8; 6183];
+    let h = c.recover(b"", b"", &mut out);
+    write::line(name, made::said(h));
+}
+
+// Every number visible, no checkpoint, log 1 2.
+fn visible_begun() -> Collector {
+    let h = first_112(lane0(2, 2, 0), one_two());
+    write::call(b"recover, W at V", 1, made::said(h));
+    made::left(h)
+}
+
+fn visible_files() -> Collector {
+    let c = visible_begun();
+    room_6183(b"recover, W at V, call 2, room for 6183", c);
+    let d = calls_2_4(b"recover, W at V", c);
+    room_6183(b"recover, W at V, call 5, room for 6183", d);
+    d
+}
+
+// While it goes on no other call is taken; behind the last one it is in service, with no position used.
+fn visible() {
+    let c = visible_files();
+    let h = made::accept_one(c, 0, 0);
+    write::line(b"accept, W at V, recovering", made::said(h));
+    let d = calls_5_15(b"recover, W at V", c);
+    later(b"recover, W at V", 16, d);
+    let g = made::accept_one(d, 0, 0);
+    write::line(b"accept, W at V, behind call 15", made::said(g));
+}
+
+// Epoch 5, version 1: lane 0 at W 3, V 2, R 1; lane 4 at W 1, V 0. The checkpoint, and log 2 3.
+fn handed_out() -> Vault {
+    let x = vault::set_w(lane0(3, 2, 1), 4, 1);
+    let y = vault::set_e(x, 5);
+    vault::set_n(vault::set_s(y, 1), 1)
+}
+
+fn in_epoch(w: u64) -> [u8; 56] {
+    made::next(vault::set_e(lane0(w, 0, 0), 5), 0)
+}
+
+fn unseen_begun() -> Collector {
+    let log = made::joined(in_epoch(1), in_epoch(2));
+    let h = first_both(handed_out(), version_1(), log);
+    write::call(b"recover, W above V", 1, made::said(h));
+    made::left(h)
+}
+
+fn unseen_r() -> Collector {
+    let c = calls_2_4(b"recover, W above V", unseen_begun());
+    calls_5_15(b"recover, W above V", c)
+}
+
+fn unseen_v() -> Collector {
+    let c = calls_16_19(b"recover, W above V", unseen_r());
+    calls_20_24(b"recover, W above V", c)
+}
+
+// Number 3 was never visible: number 2 is the latest of the table.
+fn unseen() {
+    let c = unseen_v();
+    let e = c.reading(0);
+    write::counted(b"recover, W above V, meter 0 shows number", e.number);
+    later(b"recover, W above V", 25, c);
+}
+
 pub fn cases() {
     condition();
     service();
+    longest();
+    too_long();
     version();
     seal();
     epoch();
@@ -320,4 +467,6 @@ pub fn cases() {
     lowest();
     before_log();
     before_next();
+    visible();
+    unseen();
 }

@@ -69,9 +69,8 @@ fn refusal(why: Refusal) {
     }
 }
 
-// The line of a call.
-pub fn line(name: &[u8], o: Outcome) {
-    text(name);
+// What a call answered, to the end of the line.
+fn answer(o: Outcome) {
     text(b": ");
     match o {
         Outcome::Taken { store: named, len } => {
@@ -86,6 +85,20 @@ pub fn line(name: &[u8], o: Outcome) {
         Outcome::Refused { why } => refusal(why),
     }
     text(b"\n");
+}
+
+// The line of a call.
+pub fn line(name: &[u8], o: Outcome) {
+    text(name);
+    answer(o);
+}
+
+// The line of a call of several.
+pub fn call(name: &[u8], k: u64, o: Outcome) {
+    text(name);
+    text(b", call ");
+    number(k);
+    answer(o);
 }
 
 // A line with a number.
