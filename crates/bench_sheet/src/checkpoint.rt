@@ -80,6 +80,65 @@ fn between() {
     write::line(b"point, a checkpoint is due", made::said(p));
 }
 
+// The lowest number first.
+fn lowest() {
+    let x = vault::set_s(vault::new_vault(), MAX);
+    let h = made::accept_one(made::served(x), 0, 10);
+    call(
+        b"checkpoint, a record is due and S at the maximum",
+        made::left(h),
+    );
+}
+
+// ---- the buffer: what stood there was 165
+
+fn fill_6183(c: Collector) -> [u8; 6183] {
+    let mut out = [165u8; 6183];
+    c.checkpoint(&mut out);
+    out
+}
+
+fn fill_6185(c: Collector) -> [u8; 6185] {
+    let mut out = [165u8; 6185];
+    c.checkpoint(&mut out);
+    out
+}
+
+fn first_of_6183(b: [u8; 6183]) -> u64 {
+    b[0] as u64
+}
+
+fn first_of_6185(b: [u8; 6185]) -> u64 {
+    b[0] as u64
+}
+
+fn last_of_6185(b: [u8; 6185]) -> u64 {
+    b[6184] as u64
+}
+
+// Only the file is put out, where there is room for it, and the bytes behind it stay.
+fn unfilled() {
+    let none = fill_6185(made::fresh());
+    write::counted(b"checkpoint, call 1, byte 0", first_of_6185(none));
+    let short = fill_6183(made::filing(made::fresh()));
+    write::counted(
+        b"checkpoint, call 2, room for 6183, byte 0",
+        first_of_6183(short),
+    );
+}
+
+fn filled() {
+    let long = fill_6185(made::filing(made::fresh()));
+    write::counted(
+        b"checkpoint, call 2, room for 6185, byte 0",
+        first_of_6185(long),
+    );
+    write::counted(
+        b"checkpoint, call 2, room for 6185, byte 6184",
+        last_of_6185(long),
+    );
+}
+
 pub fn cases() {
     condition();
     due();
@@ -87,4 +146,7 @@ pub fn cases() {
     seal();
     calls();
     between();
+    lowest();
+    unfilled();
+    filled();
 }

@@ -154,12 +154,22 @@ fn longest() {
     write::line(b"recover, a log of 262144 bytes, zeros", made::said(h));
 }
 
-fn too_long() {
-    let c = made::cold();
+fn too_long(name: &[u8], x: Vault) {
+    let c = made::cold_with(x);
     let log = [0u8; 262145];
     let mut out = [0u8; 1];
     let h = c.recover(b"", &log, &mut out);
-    write::line(b"recover, a log of 262145 bytes, zeros", made::said(h));
+    write::line(name, made::said(h));
+}
+
+fn lengths() {
+    longest();
+    let new = vault::new_vault();
+    too_long(b"recover, a log of 262145 bytes, zeros", new);
+    too_long(
+        b"recover, a log of 262145 bytes and E at the maximum",
+        vault::set_e(new, MAX),
+    );
 }
 
 // ---- the counters (8)
@@ -215,6 +225,17 @@ fn closed() {
         at_version(1),
         forged(),
     );
+}
+
+// Without the last byte.
+fn short_file() {
+    let b = version_1();
+    let mut file = [0u8; 6183];
+    octets::copy(&b, &mut file);
+    let c = made::cold_with(at_version(1));
+    let mut out = [0u8; 1];
+    let h = c.recover(&file, b"", &mut out);
+    write::line(b"recover, a checkpoint a byte short", made::said(h));
 }
 
 fn versions() {
@@ -446,14 +467,14 @@ fn unseen() {
 pub fn cases() {
     condition();
     service();
-    longest();
-    too_long();
+    lengths();
     version();
     seal();
     epoch();
     needless();
     needed();
     closed();
+    short_file();
     versions();
     reads();
     tears();

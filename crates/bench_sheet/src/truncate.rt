@@ -45,6 +45,11 @@ fn condition() {
 fn due() {
     let h = made::accept_one(covered(), 0, 30);
     call(b"truncate, a record is due", made::left(h), 21);
+    call(
+        b"truncate, a record is due and no such point",
+        made::left(h),
+        20,
+    );
 }
 
 fn filing() {
