@@ -95,58 +95,38 @@ static int recover(void)
 
 /* ---- the cipher's part of it ---- */
 
-static int bare_seal_record(void)
+/* The text in body, and the text behind the head of framed. */
+static int bare_seal(const uint8_t *nonce, const uint8_t *framed, uint8_t *body, size_t n)
 {
-    return cipher_seal(key.schedule, key.multiples, record_nonce, NONCE, record, AAD,
-                       bare_record, sizeof bare_record, TEXT) == CIPHER_DONE;
+    return cipher_seal(key.schedule, key.multiples, nonce, NONCE, framed, AAD, body, n + TAG, n) == CIPHER_DONE;
 }
 
-static int bare_open_record(void)
+static int bare_open(const uint8_t *nonce, const uint8_t *framed, uint8_t *out, size_t n)
 {
-    return cipher_open(key.schedule, key.multiples, record_nonce, NONCE, record, AAD,
-                       record + AAD, TEXT + TAG, record_text, TEXT) == CIPHER_DONE;
+    return cipher_open(key.schedule, key.multiples, nonce, NONCE, framed, AAD,
+                       framed + AAD, n + TAG, out, n) == CIPHER_DONE;
 }
 
-static int bare_seal_file(void)
+static int bare_seal_record(void) { return bare_seal(record_nonce, record, bare_record, TEXT); }
+static int bare_open_record(void) { return bare_open(record_nonce, record, record_text, TEXT); }
+static int bare_seal_file(void) { return bare_seal(file_nonce, file, bare_file, TABLE); }
+static int bare_open_file(void) { return bare_open(file_nonce, file, file_table, TABLE); }
+
+/* The same work so many times. */
+static int each(int (*work)(void), int times)
 {
-    return cipher_seal(key.schedule, key.multiples, file_nonce, NONCE, file, AAD,
-                       bare_file, sizeof bare_file, TABLE) == CIPHER_DONE;
+    int right = 1;
+    for (int i = 0; i < times; i++)
+        right &= work();
+    return right;
 }
 
-static int bare_open_file(void)
-{
-    return cipher_open(key.schedule, key.multiples, file_nonce, NONCE, file, AAD,
-                       file + AAD, TABLE + TAG, file_table, TABLE) == CIPHER_DONE;
-}
+static int bare_transaction(void) { return bare_seal_record() && bare_open_record(); }
 
-static int bare_open_log(void)
-{
-    int opened = 0;
-    for (int i = 0; i < LOG; i++)
-        opened += bare_open_record();
-    return opened == LOG;
-}
-
-static int bare_transact(void)
-{
-    int done = 0;
-    for (int i = 0; i < LISTED; i++)
-        done += bare_seal_record() && bare_open_record();
-    return done == LISTED;
-}
-
-static int bare_checkpoints(void)
-{
-    int done = 0;
-    for (int i = 0; i < FILES; i++)
-        done += bare_seal_file();
-    return done == FILES;
-}
-
-static int bare_recover(void)
-{
-    return bare_open_file() && bare_open_log();
-}
+static int bare_open_log(void) { return each(bare_open_record, LOG); }
+static int bare_transact(void) { return each(bare_transaction, LISTED); }
+static int bare_checkpoints(void) { return each(bare_seal_file, FILES); }
+static int bare_recover(void) { return bare_open_file() && bare_open_log(); }
 
 static struct row {
     const char *name;
