@@ -1,5 +1,6 @@
 // Whole runs of the collector, for the bench: what its calls cost on the compiled code.
 ghost use Prim.Native.Nat.{_≤_};
+use protocol::Answer;
 use protocol::Due;
 use protocol::Outcome;
 use protocol::Phase;
@@ -9,12 +10,6 @@ use protocol::State;
 const RECORD: usize = 176;
 // A checkpoint file.
 const FILE: usize = 6184;
-
-// The state behind a transaction, and 1 where it was made visible.
-struct Run {
-    state: State,
-    seen: u64,
-}
 
 // A collector in service, from a loaded one.
 fn served(key: [u8; 16]) -> State {
@@ -47,19 +42,11 @@ fn taken(o: Outcome) -> u64
 }
 
 // A transaction of 16 writes: accepted, sealed, and made visible from the bytes that Seal put out.
-fn transact(c: State, text: &[u8], lane: u8, position: u64) -> Run
-    ensures { λ r. ⌜ r .seen ≤ 1 ⌝ }
-{
+fn transact(c: State, text: &[u8], lane: u8, position: u64) -> Answer {
     let a = accepting::accept(c, text, lane, position);
-    let one = a.state;
     let mut record = [0u8; RECORD];
-    let s = accepting::seal(one, &mut record);
-    let two = s.state;
-    let d = committing::commit(two, &record);
-    let state = d.state;
-    let outcome = d.outcome;
-    let seen = taken(outcome);
-    Run { state, seen }
+    let s = accepting::seal(a.state, &mut record);
+    committing::commit(s.state, &record)
 }
 
 // So many transactions of one text of 16 writes, lane by lane; how many of them were made visible. The list of accepted
@@ -73,10 +60,11 @@ pub extern "C" fn collector_transactions(text: &[u8], count: u64) -> u64
     let mut i: u64 = 0;
     while i < count {
         let lane = (i % 8) as u8;
-        let run = transact(state, text, lane, i);
-        let next = run.state;
-        state = next;
-        seen += run.seen;
+        let a = transact(state, text, lane, i);
+        let outcome = a.outcome;
+        let one = taken(outcome);
+        state = a.state;
+        seen += one;
         i += 1;
         if i % 128 == 0 {
             state.journal = journal::no_journal();
@@ -87,20 +75,12 @@ pub extern "C" fn collector_transactions(text: &[u8], count: u64) -> u64
 
 // ---- Checkpoint
 
-// One checkpoint: N, the file, S. 1 where the file was put out and the last call was taken.
-fn file_out(c: State) -> Run
-    ensures { λ r. ⌜ r .seen ≤ 1 ⌝ }
-{
+// One checkpoint: N, the file, S.
+fn file_out(c: State) -> Answer {
     let mut out = [0u8; FILE];
     let a = checkpointing::checkpoint(c, &mut out);
-    let one = a.state;
-    let b = checkpointing::checkpoint(one, &mut out);
-    let two = b.state;
-    let d = checkpointing::checkpoint(two, &mut out);
-    let state = d.state;
-    let outcome = d.outcome;
-    let seen = taken(outcome);
-    Run { state, seen }
+    let b = checkpointing::checkpoint(a.state, &mut out);
+    checkpointing::checkpoint(b.state, &mut out)
 }
 
 // So many checkpoints of a table of the text's meters; how many of them were made.
@@ -114,10 +94,11 @@ pub extern "C" fn collector_checkpoints(text: &[u8], count: u64) -> u64
     let mut seen: u64 = 0;
     let mut i: u64 = 0;
     while i < count {
-        let run = file_out(state);
-        let next = run.state;
-        state = next;
-        seen += run.seen;
+        let a = file_out(state);
+        let outcome = a.outcome;
+        let one = taken(outcome);
+        state = a.state;
+        seen += one;
         i += 1;
     }
     seen

@@ -6,7 +6,6 @@ ghost use lib.ListN.{length};
 ghost use Rattle.gcm.specs.Answers.{putOver};
 ghost use Rattle.sealed.specs.Aead.{aesGcm};
 ghost use Rattle.sealed.specs.Checkpoint.{fileBytes, fileAnswer, filePut};
-ghost use Rattle.protocol.specs.States.{withVault};
 ghost use Rattle.protocol.specs.Said.{shownAs};
 ghost use Rattle.filing.specs.Steps.{sealStep, fileStep, versionStep};
 use protocol::Answer;
@@ -14,7 +13,6 @@ use protocol::Due;
 use protocol::Refusal;
 use protocol::State;
 use protocol::Store;
-use protocol::Vault;
 use sealed::file::FILE_LEN;
 use sealed::file::FilePut;
 use table::Table;
@@ -26,30 +24,9 @@ pub fn put_table(key: [u8; 16], version: u64, seal: u64, t: Table, out: &mut [u8
     ensures answer { λ r. ⌜ r ≡ fileAnswer (length (now (out .entry))) ⌝ }
     ensures buffer { λ r. ⌜ now (out .exit) ≡ putOver (filePut (fileAnswer (length (now (out .entry)))) (fileBytes (aesGcm key) version seal t)) (now (out .entry)) ⌝ }
 {
-    let k = gcm::prepare(key);
-    sealed::file::seal_file(&k.schedule, &k.multiples, version, seal, t, out)
-}
-
-// The state with these vault numbers and this store due.
-pub fn with_vault(c: State, x: Vault, due: Due) -> State
-    ensures { λ r. ⌜ r ≡ withVault c x due ⌝ }
-{
-    let phase = c.phase;
-    let table = c.table;
-    let journal = c.journal;
-    let points = c.points;
-    let held = c.held;
-    let key = c.key;
-    State {
-        vault: x,
-        phase,
-        due,
-        table,
-        journal,
-        points,
-        held,
-        key,
-    }
+    let mut multiples = [0u64; gcm::MULTIPLES_LEN];
+    let schedule = gcm::prepare_in(key, &mut multiples);
+    sealed::file::seal_file(&schedule, &multiples, version, seal, t, out)
 }
 
 // Names N + 1. It refuses an N at the maximum (1).
@@ -63,8 +40,7 @@ pub fn seal_step(c: State, next: Due) -> Answer
     }
     let value = n + 1;
     let raised = vault::set_n(x, value);
-    let state = with_vault(c, raised, next);
-    handed::taken(state, Store::N { value }, 0)
+    handed::stored(c, raised, next, Store::N { value }, 0)
 }
 
 // Puts the file out, with version S + 1 and N as its seal number. It refuses an S at the maximum (1), and an output
@@ -86,8 +62,7 @@ pub fn file_step(c: State, next: Due, out: &mut [u8]) -> Answer
     let version = s + 1;
     let seal = x.n;
     put_table(key, version, seal, t, out);
-    let state = with_vault(c, x, next);
-    handed::taken(state, Store::File, FILE_LEN)
+    handed::stored(c, x, next, Store::File, FILE_LEN)
 }
 
 // Names S + 1. It refuses an S at the maximum (1).
@@ -101,6 +76,5 @@ pub fn version_step(c: State, next: Due) -> Answer
     }
     let value = s + 1;
     let raised = vault::set_s(x, value);
-    let state = with_vault(c, raised, next);
-    handed::taken(state, Store::S { value }, 0)
+    handed::stored(c, raised, next, Store::S { value }, 0)
 }

@@ -5,6 +5,7 @@ use mathlib.Core.List.{List, _++_}
 use mathlib.Core.Option.{Option, some}
 use Prim.Native.Nat.{ℕ, _+_, _≤_}
 use native.Mathlib.Nat.{le-of-eq}
+use lib.Dec.{eqb}
 use lib.ListN.{length, take, drop}
 use Rattle.octets.specs.Bytes.{bytesOf, number, sameBytes}
 use Rattle.aes_key.specs.Schedule.{keyExpansion}
@@ -12,11 +13,12 @@ use Rattle.aes.specs.Cipher.{cipher}
 use Rattle.aes.specs.Counter.{gctr}
 use Rattle.aes.proofs.CounterLaws.{cipher-length}
 use Rattle.ghash.specs.Ghash.{blocksOf, ghash}
-use Rattle.ghash.specs.Multiples.{productBy, multiplesOf}
+use Rattle.ghash.specs.Multiples.{productBy, multiplesOf, multiplesIn}
 use Rattle.ghash.proofs.HashLaws.{ghash-same}
 use Rattle.ghash.proofs.TableLaws.{product-is}
 use Rattle.gcm.specs.Gcm.{preCounter, onlyIf, hashOf, tagOf, cipherText, sealed, opened, subkey, aesUnder, dotUnder, encrypted, decrypted}
 use Rattle.gcm.specs.Key.{prepared}
+use Rattle.gcm.specs.declared.Key.{Key}
 use Rattle.gcm.proofs.SealLaws.{length-sealed, opens-sealed}
 
 -- two products that agree everywhere give one tag
@@ -36,6 +38,17 @@ module _ (f g : ℕ → ℕ) (agree : (x : ℕ) → f x ≡ g x) where
   pub same-opened : (ciph : List ℕ → List ℕ) (iv a c t : List ℕ) → opened ciph f iv a c t ≡ opened ciph g iv a c t
   unfolding opened
   same-opened ciph iv a c t = ap (λ (w : List ℕ). onlyIf (sameBytes t w) (cipherText ciph iv c)) (same-tag ciph iv a c)
+
+-- a key of two parts
+abbrev pub keyOf : List ℕ → List ℕ → Key
+keyOf w m = record { schedule = w; multiples = m }
+
+-- the schedule, and 1024 words filled with the multiples, are the prepared key
+pub prepared-parts : (key w m old : List ℕ) → (w ≡ prepared key .schedule) × (m ≡ multiplesIn (subkey (aesUnder key)) old) → length old ≡ 1024 → keyOf w m ≡ prepared key
+unfolding multiplesIn prepared
+prepared-parts key w m old p long =
+    let filled : multiplesIn (subkey (aesUnder key)) old ≡ multiplesOf (subkey (aesUnder key)) = rw (ap (λ (n : ℕ). eqb n 1024) long) in
+    ap₂ keyOf (p .0) (p .1 ∙ filled)
 
 -- a prepared key's functions are AES-128-GCM under the key
 pub prepared-encrypts : (key iv a p : List ℕ)

@@ -15,8 +15,8 @@ ghost use lib.ListN.{length, take, drop};
 ghost use Rattle.octets.specs.Blocks.{num};
 ghost use Rattle.octets.specs.Bytes.{bytesOf, sameBytes};
 ghost use Rattle.aes.specs.Cipher.{cipher};
-ghost use Rattle.ghash.specs.Multiples.{productBy};
-ghost use Rattle.gcm.specs.Gcm.{maxText, maxData, tagLen, preCounter, hashOf, cipherText, tagOf, sealed};
+ghost use Rattle.ghash.specs.Multiples.{multiplesIn, productBy};
+ghost use Rattle.gcm.specs.Gcm.{maxText, maxData, tagLen, aesUnder, subkey, preCounter, hashOf, cipherText, tagOf, sealed};
 ghost use Rattle.gcm.specs.Key.{prepared};
 ghost use Rattle.gcm.specs.Answers.{putOver, sealing, sealedIn, opening, openedIn};
 
@@ -54,6 +54,8 @@ pub const MAX_TEXT: usize = 0xf_ffff_ffe0;
 pub const MAX_DATA: usize = 0x1fff_ffff_ffff_ffff;
 
 pub const TAG_LEN: usize = 16;
+// The words of a hash key's multiples.
+pub const MULTIPLES_LEN: usize = ghash::TABLE_LEN;
 
 // The pre-counter block of an IV.
 fn pre_counter(iv: [u8; 12]) -> Block
@@ -65,13 +67,24 @@ fn pre_counter(iv: [u8; 12]) -> Block
     }
 }
 
+// Prepares a key in two parts: its schedule, and in m, of 1024 words, the multiples of its hash key. An m of another length
+// is left as it was.
+pub fn prepare_in(key: [u8; 16], m: &mut [u64]) -> [u32; 44]
+    ensures schedule { λ r. ⌜ r ≡ prepared key .schedule ⌝ }
+    ensures multiples { λ r. ⌜ now (m .exit) ≡ multiplesIn (subkey (aesUnder key)) (now (m .entry)) ⌝ }
+{
+    let w = aes_key::key_expansion(key);
+    let h = aes::encrypt(&w, Block { hi: 0, lo: 0 });
+    ghash::put_multiples(m, h);
+    w
+}
+
 // Prepares a key.
 pub fn prepare(key: [u8; 16]) -> Key
     ensures { λ r. ⌜ r ≡ prepared key ⌝ }
 {
-    let w = aes_key::key_expansion(key);
-    let h = aes::encrypt(&w, Block { hi: 0, lo: 0 });
-    let m = ghash::multiples(h);
+    let mut m = [0u64; MULTIPLES_LEN];
+    let w = prepare_in(key, &mut m);
     Key {
         schedule: w,
         multiples: m,

@@ -4,7 +4,10 @@
 -- Assumes nothing.
 use Prim.Native.Nat.{ℕ, zero, suc, _+_, _-_, _*_, _/_, _%_, _^_}
 use mathlib.Core.List.{List, [], _∷_, _++_}
+use mathlib.Core.Bool.{cond}
 use lib.Bits.{bitXor}
+use lib.Dec.{eqb}
+use lib.ListN.{length}
 use Rattle.octets.specs.Lists.{at}
 use Rattle.ghash.specs.Field.{_•_}
 
@@ -25,6 +28,10 @@ rowsTo (suc j) h = rowsTo j h ++ wordsTo 16 (multiple h j)
 -- h's table
 unfoldable pub multiplesOf : ℕ → List ℕ
 multiplesOf h = rowsTo 32 h
+
+-- h's table in the place of 1024 words
+unfoldable pub multiplesIn : ℕ → List ℕ → List ℕ
+multiplesIn h old = cond (eqb (length old) 1024) (multiplesOf h) old
 
 -- what a table has as entry n of row j
 abbrev pub entryAt : List ℕ → ℕ → ℕ → ℕ

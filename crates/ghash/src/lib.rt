@@ -12,10 +12,13 @@ ghost use lib.Seq.{paste};
 ghost use Rattle.octets.specs.Blocks.{num};
 ghost use Rattle.ghash.specs.Field.{shifted, products};
 ghost use Rattle.ghash.specs.Ghash.{blocksOf, ghash};
-ghost use Rattle.ghash.specs.Multiples.{wordsTo, multiplesOf, sumTo, productBy};
+ghost use Rattle.ghash.specs.Multiples.{wordsTo, multiplesIn, sumTo, productBy};
 use octets::Block;
 use octets::add;
 use octets::first_block;
+
+// The words of a table.
+pub const TABLE_LEN: usize = 1024;
 
 // V >> 1, with R added where V's rightmost bit is 1.
 fn shift(v: Block) -> Block
@@ -97,20 +100,21 @@ fn put_row(m: &mut [u64], at: usize, r: [u64; 32])
     }
 }
 
-// The table of H's multiples.
-pub fn multiples(h: Block) -> [u64; 1024]
-    ensures { λ r. ⌜ r ≡ multiplesOf (num h) ⌝ }
+// Fills m, of 1024 words, with the table of H's multiples. An m of another length is left as it was.
+pub fn put_multiples(m: &mut [u64], h: Block)
+    ensures { λ _. ⌜ now (m .exit) ≡ multiplesIn (num h) (now (m .entry)) ⌝ }
 {
-    let mut m = [0u64; 1024];
+    if m.len() != TABLE_LEN {
+        return;
+    }
     let mut v = h;
     let mut j: usize = 0;
     while j < 32 {
         let r = row(v);
-        put_row(&mut m, 32 * j, r);
+        put_row(m, 32 * j, r);
         v = shift4(v);
         j += 1;
     }
-    m
 }
 
 // z0 and the 16 entries that the word x picks in the rows from b on.

@@ -3,7 +3,7 @@
 // The tests take the parts of a state that they look at and not the whole of it: a state is some 8 KB, and passing it is
 // copying it.
 ghost use mathlib.Core.Path.{_≡_};
-ghost use Rattle.protocol.specs.States.{serving, isNothing};
+ghost use Rattle.protocol.specs.States.{serving, isNothing, withVault};
 ghost use Rattle.protocol.specs.Accept.{isRecord};
 ghost use Rattle.handed.specs.Parts.{validBy, readyBy, refusedWith, takenWith};
 use journal::LISTED;
@@ -106,4 +106,29 @@ pub fn taken(c: State, store: Store, len: usize) -> Answer
         state: c,
         outcome: Outcome::Taken { store, len },
     }
+}
+
+// A call is taken that sets a vault number or puts bytes out: the state with these vault numbers and this store due, the
+// store named, and how many bytes were put out. The answer is built in place.
+pub fn stored(c: State, x: Vault, due: Due, store: Store, len: usize) -> Answer
+    ensures { λ r. ⌜ r ≡ takenWith (withVault c x due) store len ⌝ }
+{
+    let phase = c.phase;
+    let table = c.table;
+    let journal = c.journal;
+    let points = c.points;
+    let held = c.held;
+    let key = c.key;
+    let state = State {
+        vault: x,
+        phase,
+        due,
+        table,
+        journal,
+        points,
+        held,
+        key,
+    };
+    let outcome = Outcome::Taken { store, len };
+    Answer { state, outcome }
 }

@@ -79,8 +79,7 @@ fn r_step(c: State, lane: u8) -> Answer
     let value = vault::w_at(x, lane);
     let raised = vault::set_r(x, lane, value);
     let next = after_r(x, lane);
-    let state = filing::with_vault(c, raised, next);
-    handed::taken(state, Store::R { lane, value }, 0)
+    handed::stored(c, raised, next, Store::R { lane, value }, 0)
 }
 
 // Names E + 1. It refuses an E at the maximum (1).
@@ -94,8 +93,7 @@ fn epoch_step(c: State) -> Answer
     }
     let value = e + 1;
     let raised = vault::set_e(x, value);
-    let state = filing::with_vault(c, raised, Due::RecoverV { lane: 0 });
-    handed::taken(state, Store::E { value }, 0)
+    handed::stored(c, raised, Due::RecoverV { lane: 0 }, Store::E { value }, 0)
 }
 
 // Names V = W of a lane. It refuses a lane above 7 (1).
@@ -109,8 +107,7 @@ fn v_step(c: State, lane: u8) -> Answer
     let value = vault::w_at(x, lane);
     let raised = vault::set_v(x, lane, value);
     let next = after_v(lane);
-    let state = filing::with_vault(c, raised, next);
-    handed::taken(state, Store::V { lane, value }, 0)
+    handed::stored(c, raised, next, Store::V { lane, value }, 0)
 }
 
 // Names the emptying of the log; the collector is then in service, with no point and no position used.

@@ -83,8 +83,9 @@ fn read_under<'a>(
 fn read(key: [u8; 16], x: Vault, checkpoint: &[u8], log: &[u8]) -> LogRead
     ensures { λ r. ⌜ readOf r ≡ readFrom (aesGcm key) x (now (checkpoint .entry)) (now (log .entry)) ⌝ }
 {
-    let k = gcm::prepare(key);
-    read_under(&k.schedule, &k.multiples, x, checkpoint, log)
+    let mut multiples = [0u64; gcm::MULTIPLES_LEN];
+    let schedule = gcm::prepare_in(key, &mut multiples);
+    read_under(&schedule, &multiples, x, checkpoint, log)
 }
 
 // The first call: a checkpoint and a log; it names the first N. It refuses a state that breaks its rule or with a store

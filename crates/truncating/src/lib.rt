@@ -68,23 +68,7 @@ fn lane_stored(c: State, position: u64, lane: u8, q: Point) -> Answer
     let value = vault::lane_at(counts, lane);
     let raised = vault::set_r(x, lane, value);
     let due = after_r(lane, position);
-    let phase = c.phase;
-    let table = c.table;
-    let journal = c.journal;
-    let points = c.points;
-    let held = c.held;
-    let key = c.key;
-    let state = State {
-        vault: raised,
-        phase,
-        due,
-        table,
-        journal,
-        points,
-        held,
-        key,
-    };
-    handed::taken(state, Store::R { lane, value }, 0)
+    handed::stored(c, raised, due, Store::R { lane, value }, 0)
 }
 
 // The point at a position and the older ones are dropped, and the deletion of the records below it is named.

@@ -1,5 +1,5 @@
 -- `filing::seal_step` meets its contract: each way out is the definition's. Assumes nothing.
-use mathlib.Core.Path.{ap, _∙_}
+use mathlib.Core.Path.{refl, ap, _∙_}
 use mathlib.Core.List.{[]}
 use borrow.Author.Needs.{needs}
 use Rattle.protocol.specs.Said.{shownAs}
@@ -15,11 +15,10 @@ returns c =
 
 returns-2 : tie.Need-returns-2
 returns-2 c =
-    let w = c .before in
-    let x = w .before in
+    let x = c .before in
     let a = x .before .before .before .args in
-    ap (λ (y : Answer). shownAs y []) (c .taken .ensures)
-    ∙ seal-taken (a .c) (a .next) (x .before .if1 .left) (x .set-n .result) (w .with-vault .result) (x .set-n .ensures) (w .with-vault .ensures)
+    ap (λ (y : Answer). shownAs y []) (c .stored .ensures)
+    ∙ seal-taken (a .c) (a .next) (x .before .if1 .left) (x .set-n .result) _ (x .set-n .ensures) refl
 
 pub seal-step-spec : {M : Type 1} → statement M
 seal-step-spec =
@@ -28,7 +27,6 @@ seal-step-spec =
     (λ c κs. search needs)
     returns
     (λ c. search needs)
-    (λ c κs. search needs)
     (λ c κs. search needs)
     (λ c κs. search needs)
     returns-2)

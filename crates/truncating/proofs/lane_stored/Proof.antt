@@ -7,9 +7,9 @@ use Rattle.truncating.proofs.lane_stored.Tie as tie
 
 returns : tie.Need-returns
 returns c =
-    let d = c .before .before .before .before .before .before in
+    let d = c .before in
     let a = d .before .before .before .before .before .args in
-    c .taken .ensures ∙ lane-made (a .c) (a .position) (a .lane) (a .q) (d .before .before .lane-at .ensures) (d .before .set-r .ensures) (d .after-r .ensures)
+    c .stored .ensures ∙ lane-made (a .c) (a .position) (a .lane) (a .q) (d .before .before .lane-at .ensures) (d .before .set-r .ensures) (d .after-r .ensures)
 
 pub lane-stored-spec : {M : Type 1} → statement M
 lane-stored-spec =

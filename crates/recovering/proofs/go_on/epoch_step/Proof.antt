@@ -1,5 +1,5 @@
 -- `recovering::go_on::epoch_step` meets its contract: each way out is the definition's. Assumes nothing.
-use mathlib.Core.Path.{ap, _∙_}
+use mathlib.Core.Path.{refl, ap, _∙_}
 use mathlib.Core.List.{[]}
 use borrow.Author.Needs.{needs}
 use Rattle.protocol.specs.Said.{shownAs}
@@ -14,11 +14,10 @@ returns c =
 
 returns-2 : tie.Need-returns-2
 returns-2 c =
-    let s = c .before in
-    let x = s .before in
+    let x = c .before in
     let g = x .before .before .before .args in
-    ap (λ (y : Answer). shownAs y []) (c .taken .ensures)
-    ∙ epoch-taken (g .c) (x .before .if1 .left) (x .set-e .result) (s .with-vault .result) (x .set-e .ensures) (s .with-vault .ensures)
+    ap (λ (y : Answer). shownAs y []) (c .stored .ensures)
+    ∙ epoch-taken (g .c) (x .before .if1 .left) (x .set-e .result) _ (x .set-e .ensures) refl
 
 pub epoch-step-spec : {M : Type 1} → statement M
 epoch-step-spec =
@@ -27,7 +26,6 @@ epoch-step-spec =
     (λ c κs. search needs)
     returns
     (λ c. search needs)
-    (λ c κs. search needs)
     (λ c κs. search needs)
     (λ c κs. search needs)
     returns-2)

@@ -1,5 +1,5 @@
 -- `recovering::go_on::v_step` meets its contract: each way out is the definition's. Assumes nothing.
-use mathlib.Core.Path.{ap, _∙_}
+use mathlib.Core.Path.{refl, ap, _∙_}
 use mathlib.Core.List.{[]}
 use borrow.Author.Needs.{needs}
 use Rattle.protocol.specs.Said.{shownAs}
@@ -15,15 +15,14 @@ returns c =
 
 returns-2 : tie.Need-returns-2
 returns-2 c =
-    let s = c .before in
-    let d = s .before in
+    let d = c .before in
     let x = d .before in
     let w = x .before in
     let i = w .before .before in
     let g = i .before .args in
-    ap (λ (y : Answer). shownAs y []) (c .taken .ensures)
-    ∙ v-taken (g .c) (g .lane) (i .if1 .left) (w .w-at .result) (x .set-v .result) (d .after-v .result) (s .with-vault .result)
-    (w .w-at .ensures) (x .set-v .ensures) (d .after-v .ensures) (s .with-vault .ensures)
+    ap (λ (y : Answer). shownAs y []) (c .stored .ensures)
+    ∙ v-taken (g .c) (g .lane) (i .if1 .left) (w .w-at .result) (x .set-v .result) (d .after-v .result) _
+    (w .w-at .ensures) (x .set-v .ensures) (d .after-v .ensures) refl
 
 pub v-step-spec : {M : Type 1} → statement M
 v-step-spec =
@@ -31,7 +30,6 @@ v-step-spec =
     (tie.spec
     (λ c κs. search needs)
     returns
-    (λ c κs. search needs)
     (λ c κs. search needs)
     (λ c κs. search needs)
     (λ c κs. search needs)
