@@ -1,5 +1,5 @@
 // 01's cases, run on the compiled code: for each operation and each number that it can return a case just inside and one
-// just outside, and the marked cases of the bench sheet (M) that are calls. A line a case: its name, and what the call
+// just outside, and the marked cases of the bench sheet (M). A line a case: its name, and what the call
 // answered: the store that it named and the bytes that it put out, or the number on the display and the value beside it.
 mod accept;
 mod checkpoint;

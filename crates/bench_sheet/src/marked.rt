@@ -1,4 +1,4 @@
-// The marked cases of the bench sheet that are calls: M1 and M4 to M12.
+// The marked cases of the bench sheet: M1 to M12.
 use super::accept;
 use super::made;
 use super::made::MAX;
@@ -7,6 +7,7 @@ use super::recover;
 use super::seal;
 use super::write;
 use collector::Collector;
+use sealed::record;
 
 // Stamp 100 on one lane, then on another: the lane that meter 0 shows. Lane 2 is at number 7, the others at 1.
 fn shows(first: u8, second: u8) -> u64 {
@@ -24,6 +25,31 @@ fn m1() {
     let all = made::accept_16(made::fresh(), 0, 10);
     seal::room_176(b"M1 16 writes", made::left(all));
     accept::seventeen(b"M1 17 writes", made::fresh(), 0, 10);
+}
+
+// M2: 00 gives 63, 53 gives ed.
+fn m2() {
+    let t = aes_key::sbox_table();
+    write::coded(b"M2 00 gives", t[0]);
+    write::coded(b"M2 53 gives", t[0x53]);
+}
+
+// Four bytes of a nonce.
+fn four(a: u8, b: u8, c: u8, d: u8) {
+    write::byte(a);
+    write::byte(b);
+    write::byte(c);
+    write::byte(d);
+}
+
+// M3: 1 3 0 0 2 1 0 0 0 0 0 0.
+fn m3() {
+    let n = record::nonce_of(3, 258);
+    write::text(b"M3 nonce of lane 3, number 258:");
+    four(n[0], n[1], n[2], n[3]);
+    four(n[4], n[5], n[6], n[7]);
+    four(n[8], n[9], n[10], n[11]);
+    write::text(b"\n");
 }
 
 // The record behind number w of lane 0.
@@ -137,6 +163,8 @@ fn m12() {
 // The lines of the marked cases.
 pub fn cases() {
     m1();
+    m2();
+    m3();
     m4();
     m5();
     m6();

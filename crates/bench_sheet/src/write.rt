@@ -108,3 +108,24 @@ pub fn counted(name: &[u8], n: u64) {
     number(n);
     text(b"\n");
 }
+
+// A digit of a hexadecimal number.
+fn digit(n: u8) -> u8 {
+    if n < 10 {
+        return n + b'0';
+    }
+    n % 16 + (b'a' - 10)
+}
+
+// A line with a byte in hexadecimal.
+pub fn coded(name: &[u8], x: u8) {
+    text(name);
+    text(b": ");
+    text(&[digit(x / 16), digit(x % 16), b'\n']);
+}
+
+// A byte of several, a space before it.
+pub fn byte(x: u8) {
+    text(b" ");
+    number(x as u64);
+}
