@@ -1,0 +1,2 @@
+-- FlatLaws: a state written down and read again.
+pub mod FlatLaws
