@@ -161,7 +161,7 @@ pub extern "C" fn paviluko_recover(
 // The latest reading of a meter, with its code, its stamp, and the lane and number of its transaction.
 #[no_mangle]
 pub extern "C" fn paviluko_reading(s: FlatState, meter: u8) -> Entry
-    ensures { λ r. ⌜ r ≡ getD (thaw s .table .entries) meter noEntry ⌝ }
+    ensures { λ r. ⌜ r ≡ getD (s .table .entries) meter noEntry ⌝ }
 {
     let entries = s.table.entries;
     entries[meter as usize]
@@ -170,7 +170,7 @@ pub extern "C" fn paviluko_reading(s: FlatState, meter: u8) -> Entry
 // The vault's 27 numbers, as they stand when the store named last is done.
 #[no_mangle]
 pub extern "C" fn paviluko_numbers(s: FlatState) -> Vault
-    ensures { λ r. ⌜ r ≡ thaw s .vault ⌝ }
+    ensures { λ r. ⌜ r ≡ s .vault ⌝ }
 {
     s.vault
 }
@@ -194,7 +194,7 @@ pub extern "C" fn paviluko_due_store(s: FlatState) -> DueNumbers
 // How many accepted records are listed, of the 128 that may stand at or above the newest point.
 #[no_mangle]
 pub extern "C" fn paviluko_records(s: FlatState) -> u64
-    ensures { λ r. ⌜ r ≡ thaw s .journal .count ⌝ }
+    ensures { λ r. ⌜ r ≡ s .journal .count ⌝ }
 {
     s.journal.count as u64
 }
@@ -202,7 +202,7 @@ pub extern "C" fn paviluko_records(s: FlatState) -> u64
 // How many points are kept, of the 8 that may be.
 #[no_mangle]
 pub extern "C" fn paviluko_points_kept(s: FlatState) -> u64
-    ensures { λ r. ⌜ r ≡ thaw s .points .count ⌝ }
+    ensures { λ r. ⌜ r ≡ s .points .count ⌝ }
 {
     s.points.count as u64
 }
