@@ -6,6 +6,7 @@ use table::Table;
 
 // The vault's 27 numbers. For each lane: w, the numbers handed out; v, the numbers visible; r, the numbers truncated.
 // The epoch e, the checkpoint version s, and the checkpoint seal number n.
+#[repr(C)]
 pub struct Vault {
     pub w: [u64; 8],
     pub v: [u64; 8],
@@ -45,6 +46,7 @@ pub enum Due {
 }
 
 // The accepted records at or above the newest point, in the order of their positions, and the last position used.
+#[repr(C)]
 pub struct Journal {
     pub positions: [u64; 128],
     pub lanes: [u8; 128],
@@ -54,6 +56,7 @@ pub struct Journal {
 }
 
 // A point: per lane how many numbers lie below it, and whether a checkpoint covers it.
+#[repr(C)]
 pub struct Point {
     pub position: u64,
     pub counts: [u64; 8],
@@ -61,6 +64,7 @@ pub struct Point {
 }
 
 // The points kept, and the newest one set since service began.
+#[repr(C)]
 pub struct Points {
     pub items: [Point; 8],
     pub count: usize,
@@ -69,6 +73,7 @@ pub struct Points {
 }
 
 // The transaction that Accept holds for Seal.
+#[repr(C)]
 pub struct Held {
     pub text: [u8; 136],
     pub len: usize,

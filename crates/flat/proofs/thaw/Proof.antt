@@ -1,0 +1,12 @@
+-- `flat::thaw` meets its contract: due store and phase are read from their numbers, and the rest is as it came. Assumes nothing.
+use Rattle.flat.specs.Flat.{thaw}
+use borrow.Author.Needs.{needs}
+use Rattle.flat.proofs.thaw.Statement.{statement}
+use Rattle.flat.proofs.thaw.Tie as tie
+
+returns : tie.Need-returns
+unfolding thaw
+returns c = rw (c .before .before .before .before .before .before .due-of .ensures, c .before .before .before .before .before .before .before .phase-of .ensures)
+
+pub thaw-spec : {M : Type 1} → statement M
+thaw-spec = tie.close (tie.spec (λ c κs. search needs) (λ c κs. search needs) returns)

@@ -1,0 +1,2 @@
+-- CarryLaws: an answer carried over the boundary.
+pub mod CarryLaws

@@ -1,0 +1,400 @@
+/* Paviluko: the sealed log of a submeter collector. The C interface of target/staticlib/libpaviluko.a, for x86-64.
+ *
+ * THE LIFE OF A COLLECTOR
+ *
+ * The host keeps three things: the vault (27 counters in memory that nobody else can write), the card (log records and
+ * checkpoint files, in memory that anybody may read or change), and the collector's state (paviluko_state, in RAM). The
+ * library keeps nothing: every call takes the state by value, and its reply has the next state.
+ *
+ *   load         the vault's numbers and the key make a cold collector
+ *   recover      15 or 24 calls read checkpoint and log, and bring the collector into service
+ *   accept       a transaction is given the next number of its lane                           names W
+ *   seal         the sealed record of that transaction                                        names the record
+ *   commit       the record, read back from the card, enters the table of latest readings     names V
+ *   point        marks a position below which every accepted record is committed              names nothing
+ *   checkpoint   3 calls seal the whole table into a file                                     names N, the file, S
+ *   truncate     9 calls give up the records below a covered point                            names R of 8 lanes, the deletion
+ *
+ * THE ONE RULE. A call that is taken names at most one store (paviluko_said: store, lane, value, len). The host carries out
+ * exactly that store before the next call, and hands the next call the state last returned. Nothing else sets the vault.
+ * While a store is due (paviluko_due_store), only the call that names it, or a load, is taken: after accept only seal, and
+ * after the first call of checkpoint, truncate or recover only that same function, called again with the same position.
+ *
+ * A POWER CUT keeps vault and card and loses the state. The store named last is then wholly done or not done; either is
+ * fine. Start again with load, given the vault's own numbers, and recover, given the checkpoint file of version S (none
+ * while S is 0) and the log records end to end in order of position.
+ *
+ * A CALL THAT IS TURNED DOWN returns one of the numbers 1 to 15. It hands back the state that came, leaves every buffer as
+ * it was, and names no store: the host may simply go on. Where several causes hold, the lowest number is returned.
+ *
+ * WHAT IS PROVED. Each function below returns, for every argument, what the definitions in crates/protocol/specs say; see
+ * crates/paviluko/src/lib.rt for the promises and docs/ARCHITECTURE.md for the theorem about whole histories.
+ *
+ * MEMORY AND THREADS. There is no heap, no global and no hidden state: the functions are re-entrant, and no pointer outlives
+ * its call. State and reply are some 8 KB each and are passed by value, so a call needs stack. Measured, with the copies that
+ * the caller makes: accept and load 33 KB, truncate 43, point 52, seal 73, commit 79, checkpoint 99, recover 138, the
+ * questions at the end 23. PAVILUKO_STACK leaves room beyond the deepest of them. The paviluko_do_ functions at the end of
+ * this file take a pointer to the state instead, and write the next state back.
+ *
+ * POINTERS. The functions want a valid address for each buffer, even for one of length 0; the paviluko_do_ functions take
+ * NULL with length 0 as well. `out` must not overlap another buffer of the same call.
+ */
+#ifndef PAVILUKO_H
+#define PAVILUKO_H
+
+#include <stddef.h>
+#include <stdint.h>
+
+#ifdef __cplusplus
+#define PAVILUKO_ASSERT(test, text) static_assert(test, text)
+extern "C" {
+#else
+#define PAVILUKO_ASSERT(test, text) _Static_assert(test, text)
+#endif
+
+/* ---- numbers and lengths ---- */
+
+#define PAVILUKO_LANES 8
+#define PAVILUKO_METERS 256
+/* Records that may be listed at or above the newest point, and points that may be kept. */
+#define PAVILUKO_LISTED 128
+#define PAVILUKO_POINTS 8
+/* No vault number goes beyond this one. */
+#define PAVILUKO_COUNTER_MAX ((UINT64_C(1) << 48) - 1)
+#define PAVILUKO_KEY_LEN 16
+/* A transaction of k writes (1 to 16) has 8 + 8k bytes: stamp (8 bytes, seconds), then per write meter (2, 0 to 255, strictly
+ * ascending), code (1 to 4), 0, reading (4, signed). All little-endian. */
+#define PAVILUKO_TRANSACTION_MAX 136
+/* A record is its transaction's length and 40 bytes more. */
+#define PAVILUKO_RECORD_EXTRA 40
+#define PAVILUKO_RECORD_MAX 176
+#define PAVILUKO_CHECKPOINT_LEN 6184
+/* The longest log that recover reads. */
+#define PAVILUKO_LOG_MAX 262144
+/* Stack to keep free for a call. */
+#define PAVILUKO_STACK 163840
+
+/* paviluko_state.phase */
+enum { PAVILUKO_COLD = 0, PAVILUKO_RECOVERING = 1, PAVILUKO_IN_SERVICE = 2 };
+
+/* paviluko_due.kind: the store that the next call names. In brackets the fields that the kind uses; the others are 0. */
+enum {
+    PAVILUKO_DUE_NOTHING = 0,
+    PAVILUKO_DUE_RECORD = 1,           /* seal */
+    PAVILUKO_DUE_FILE = 2,             /* checkpoint, second call */
+    PAVILUKO_DUE_VERSION = 3,          /* checkpoint, third call */
+    PAVILUKO_DUE_TRUNCATE_R = 4,       /* truncate (lane, position) */
+    PAVILUKO_DUE_TRUNCATE_DELETE = 5,  /* truncate, last call (position) */
+    PAVILUKO_DUE_RECOVER_FILE = 6,     /* recover (second: 0 for its first checkpoint, 1 for its second) */
+    PAVILUKO_DUE_RECOVER_VERSION = 7,  /* recover (second) */
+    PAVILUKO_DUE_RECOVER_SEAL = 8,     /* recover: N of its second checkpoint */
+    PAVILUKO_DUE_RECOVER_R = 9,        /* recover (lane) */
+    PAVILUKO_DUE_RECOVER_EPOCH = 10,   /* recover, if any W differs from V */
+    PAVILUKO_DUE_RECOVER_V = 11,       /* recover (lane), likewise */
+    PAVILUKO_DUE_RECOVER_EMPTY = 12    /* recover, last call */
+};
+
+/* paviluko_said.store: the store to carry out. In brackets the fields of paviluko_said that belong to it. */
+enum {
+    PAVILUKO_STORE_NONE = 0,
+    PAVILUKO_STORE_W = 1,       /* vault: w[lane] = value */
+    PAVILUKO_STORE_V = 2,       /* vault: v[lane] = value */
+    PAVILUKO_STORE_R = 3,       /* vault: r[lane] = value */
+    PAVILUKO_STORE_E = 4,       /* vault: e = value */
+    PAVILUKO_STORE_S = 5,       /* vault: s = value */
+    PAVILUKO_STORE_N = 6,       /* vault: n = value */
+    PAVILUKO_STORE_RECORD = 7,  /* card: write the first len bytes of out as the record at position value */
+    PAVILUKO_STORE_FILE = 8,    /* card: write the first len bytes of out as a checkpoint file, beside the older ones */
+    PAVILUKO_STORE_DELETE = 9,  /* card: delete the records at positions below value */
+    PAVILUKO_STORE_EMPTY = 10   /* card: delete all records */
+};
+
+/* paviluko_said.number: why a call was turned down. In brackets what value then is; it is 0 for the others. */
+enum {
+    PAVILUKO_TAKEN = 0,
+    PAVILUKO_CONDITION = 1,    /* another store is due, wrong phase for this call, or a state that no call left */
+    PAVILUKO_NUMBERS = 2,      /* load: vault numbers break V <= W, R <= W, R > V only where R = W, or the maximum */
+    PAVILUKO_LENGTH = 3,       /* key not 16 bytes, out too short, log too long (the length needed or allowed) */
+    PAVILUKO_TRANSACTION = 4,  /* transaction not in its layout */
+    PAVILUKO_LANE = 5,         /* lane above 7 */
+    PAVILUKO_POSITION = 6,     /* position too low */
+    PAVILUKO_FULL = 7,         /* 128 records listed, or 8 points kept */
+    PAVILUKO_SPENT = 8,        /* a counter is at its maximum */
+    PAVILUKO_CLOSED = 9,       /* bytes do not open (offset of the record's first byte; 0 for a checkpoint and in commit) */
+    PAVILUKO_EPOCH = 10,       /* wrong epoch (offset, 0 in commit) */
+    PAVILUKO_TURN = 11,        /* number out of turn (offset, 0 in commit) */
+    PAVILUKO_VERSION = 12,     /* checkpoint version is not S */
+    PAVILUKO_MISSING = 13,     /* visible records missing (the lowest such lane) */
+    PAVILUKO_NO_POINT = 14,    /* no such point, or not covered by a checkpoint */
+    PAVILUKO_UNSEEN = 15       /* a record below the point is not committed yet */
+};
+
+/* ---- structs ----
+ * A byte marked "0 or 1" must hold 0 or 1. States come from the functions below and go back to them: read a state's fields
+ * freely, but do not make or change one. It holds the key, so keep it out of reach. */
+
+/* The vault's 27 numbers, all 0 when new. Per lane: w numbers handed out, v numbers visible, r numbers truncated; the epoch
+ * e, the checkpoint version s, the checkpoint seal number n. */
+typedef struct {
+    uint64_t w[PAVILUKO_LANES];
+    uint64_t v[PAVILUKO_LANES];
+    uint64_t r[PAVILUKO_LANES];
+    uint64_t e;
+    uint64_t s;
+    uint64_t n;
+} paviluko_vault;
+
+/* The latest reading of a meter, with stamp, lane and number of its transaction. All 0 where present is 0. */
+typedef struct {
+    uint64_t stamp;
+    uint64_t number;
+    int32_t reading;
+    uint8_t code;    /* 1 cold water, 2 warm water (litres); 3 heat, 4 cooling (kWh) */
+    uint8_t lane;
+    uint8_t present; /* 0 or 1 */
+} paviluko_entry;
+
+/* An entry for each meter. */
+typedef struct {
+    paviluko_entry entries[PAVILUKO_METERS];
+} paviluko_table;
+
+/* The accepted records at or above the newest point: the first count places of positions and lanes. */
+typedef struct {
+    uint64_t positions[PAVILUKO_LISTED];
+    uint8_t lanes[PAVILUKO_LISTED];
+    size_t count;
+    uint8_t used;    /* 0 or 1: whether a position was used since service began */
+    uint64_t last;   /* the last position used */
+} paviluko_journal;
+
+/* A point: per lane how many numbers lie below it. */
+typedef struct {
+    uint64_t position;
+    uint64_t counts[PAVILUKO_LANES];
+    uint8_t covered; /* 0 or 1: whether a checkpoint covers it */
+} paviluko_mark;
+
+/* The points kept: the first count items. */
+typedef struct {
+    paviluko_mark items[PAVILUKO_POINTS];
+    size_t count;
+    uint8_t any;     /* 0 or 1: whether a point was set since service began */
+    uint64_t newest; /* the newest one, even if dropped */
+} paviluko_marks;
+
+/* The transaction that accept holds for seal: the first len bytes of text. */
+typedef struct {
+    uint8_t text[PAVILUKO_TRANSACTION_MAX];
+    size_t len;
+    uint8_t lane;
+    uint64_t position;
+} paviluko_held;
+
+/* The store that is due. */
+typedef struct {
+    uint64_t position;
+    uint8_t kind;    /* PAVILUKO_DUE_ */
+    uint8_t lane;
+    uint8_t second;
+} paviluko_due;
+
+typedef struct {
+    paviluko_vault vault; /* as it stands when the store named last is done */
+    paviluko_due due;
+    paviluko_table table;
+    paviluko_journal journal;
+    paviluko_marks points;
+    paviluko_held held;
+    uint8_t key[PAVILUKO_KEY_LEN];
+    uint8_t phase;        /* PAVILUKO_COLD, PAVILUKO_RECOVERING or PAVILUKO_IN_SERVICE */
+} paviluko_state;
+
+/* What a call says. Taken: number is 0, store is the one to carry out with lane and value, and len is how many bytes stand at
+ * the start of out. Turned down: number is 1 to 15, value is what is returned with it, and the rest is 0. */
+typedef struct {
+    uint64_t value;
+    uint64_t len;
+    uint8_t number;  /* 0, or PAVILUKO_CONDITION .. PAVILUKO_UNSEEN */
+    uint8_t store;   /* PAVILUKO_STORE_ */
+    uint8_t lane;
+} paviluko_said;
+
+typedef struct {
+    paviluko_state state;
+    paviluko_said said;
+} paviluko_reply;
+
+PAVILUKO_ASSERT(sizeof(size_t) == 8, "x86-64");
+PAVILUKO_ASSERT(sizeof(paviluko_vault) == 216, "layout of paviluko_vault");
+PAVILUKO_ASSERT(offsetof(paviluko_vault, e) == 192, "layout of paviluko_vault");
+PAVILUKO_ASSERT(sizeof(paviluko_entry) == 24, "layout of paviluko_entry");
+PAVILUKO_ASSERT(offsetof(paviluko_entry, reading) == 16, "layout of paviluko_entry");
+PAVILUKO_ASSERT(offsetof(paviluko_entry, present) == 22, "layout of paviluko_entry");
+PAVILUKO_ASSERT(sizeof(paviluko_table) == 6144, "layout of paviluko_table");
+PAVILUKO_ASSERT(sizeof(paviluko_journal) == 1176, "layout of paviluko_journal");
+PAVILUKO_ASSERT(offsetof(paviluko_journal, count) == 1152, "layout of paviluko_journal");
+PAVILUKO_ASSERT(offsetof(paviluko_journal, last) == 1168, "layout of paviluko_journal");
+PAVILUKO_ASSERT(sizeof(paviluko_mark) == 80, "layout of paviluko_mark");
+PAVILUKO_ASSERT(offsetof(paviluko_mark, covered) == 72, "layout of paviluko_mark");
+PAVILUKO_ASSERT(sizeof(paviluko_marks) == 664, "layout of paviluko_marks");
+PAVILUKO_ASSERT(offsetof(paviluko_marks, newest) == 656, "layout of paviluko_marks");
+PAVILUKO_ASSERT(sizeof(paviluko_held) == 160, "layout of paviluko_held");
+PAVILUKO_ASSERT(offsetof(paviluko_held, position) == 152, "layout of paviluko_held");
+PAVILUKO_ASSERT(sizeof(paviluko_due) == 16, "layout of paviluko_due");
+PAVILUKO_ASSERT(offsetof(paviluko_state, due) == 216, "layout of paviluko_state");
+PAVILUKO_ASSERT(offsetof(paviluko_state, table) == 232, "layout of paviluko_state");
+PAVILUKO_ASSERT(offsetof(paviluko_state, journal) == 6376, "layout of paviluko_state");
+PAVILUKO_ASSERT(offsetof(paviluko_state, points) == 7552, "layout of paviluko_state");
+PAVILUKO_ASSERT(offsetof(paviluko_state, held) == 8216, "layout of paviluko_state");
+PAVILUKO_ASSERT(offsetof(paviluko_state, key) == 8376, "layout of paviluko_state");
+PAVILUKO_ASSERT(offsetof(paviluko_state, phase) == 8392, "layout of paviluko_state");
+PAVILUKO_ASSERT(sizeof(paviluko_state) == 8400, "layout of paviluko_state");
+PAVILUKO_ASSERT(sizeof(paviluko_said) == 24, "layout of paviluko_said");
+PAVILUKO_ASSERT(offsetof(paviluko_said, number) == 16, "layout of paviluko_said");
+PAVILUKO_ASSERT(offsetof(paviluko_reply, said) == 8400, "layout of paviluko_reply");
+PAVILUKO_ASSERT(sizeof(paviluko_reply) == 8424, "layout of paviluko_reply");
+
+/* ---- the operations ----
+ * Each may also be turned down with 1: a store is due that another call names, the phase is another one, or the state is none
+ * that a call left (its phase or due numbers are not listed above, it breaks load's rule, or lists too much). */
+
+/* A cold collector from the vault's own numbers and a key of 16 bytes. Names nothing.
+ * Turned down: 2; 3 (16). What is then handed back is a collector that turns down every call with 1: keep the one you had.
+ * A load may come at any time, in place of the call that a due store waits for. */
+paviluko_reply paviluko_load(paviluko_vault x, const uint8_t *key, size_t key_len);
+
+/* In service. Holds a transaction under the next number of its lane, for the record at `position`, which lies above every
+ * position used since service began and above the newest point. Names W of the lane (lane, value); then seal is due.
+ * Turned down: 1, 4, 5, 6, 7 (128 records listed: set a point), 8 (W of the lane is at its maximum). */
+paviluko_reply paviluko_accept(paviluko_state s, const uint8_t *transaction, size_t len, uint8_t lane, uint64_t position);
+
+/* In service, after accept. Puts the record of the transaction held at the start of out: len of the transaction and 40 bytes,
+ * at most PAVILUKO_RECORD_MAX; the bytes behind it stay. Names the record (value is its position, len its length).
+ * Turned down: 1; 3 (the length needed). */
+paviluko_reply paviluko_seal(paviluko_state s, uint8_t *out, size_t room);
+
+/* In service, no store due. The bytes of a record, as the card has them: they open, bear epoch E, and the number V + 1 of
+ * their lane, at most W. The transaction enters the table, and is visible once the store is done. Names V of the lane.
+ * Turned down: 1; 9, 10, 11 (0). */
+paviluko_reply paviluko_commit(paviluko_state s, const uint8_t *record, size_t len);
+
+/* In service, no store due. Sets a point: above the newest one, with every accepted record below it committed. Names nothing.
+ * Turned down: 1, 6, 7 (8 points kept: truncate), 15. */
+paviluko_reply paviluko_point(paviluko_state s, uint64_t position);
+
+/* In service. Call it three times: it names N; then the file, PAVILUKO_CHECKPOINT_LEN bytes at the start of out, the bytes
+ * behind it stay; then S. The first and the third call leave out as it was, and take any room. Points set before the first
+ * call are covered after the third.
+ * Turned down: 1; 3 (PAVILUKO_CHECKPOINT_LEN) in the second call; 8 (S or N is at its maximum) in the first. */
+paviluko_reply paviluko_checkpoint(paviluko_state s, uint8_t *out, size_t room);
+
+/* In service. Call it nine times with the position of a covered point: it names R of lanes 0 to 7, then the deletion of the
+ * records below the position. That point and older ones are dropped.
+ * Turned down: 1 (another position than that of the first call, too), 14. */
+paviluko_reply paviluko_truncate(paviluko_state s, uint64_t position);
+
+/* Cold. The first call reads a checkpoint file (of length 0 exactly if S is 0) and a log of at most PAVILUKO_LOG_MAX bytes,
+ * records end to end; if they hold all that was made visible it names N, and the table in the state is the table of all
+ * visible transactions. The other calls look at neither, and name in turn: the file (in out), S, N, a second file (in out),
+ * S, R of lanes 0 to 7, if any W differs from V also E and V of lanes 0 to 7, and emptying the log: 15 or 24 calls in all.
+ * The last one brings the collector into service. Only the calls that name a file write to out.
+ * Turned down: 1; 3 (PAVILUKO_LOG_MAX in the first call, PAVILUKO_CHECKPOINT_LEN where a file is due); in the first call
+ * also 8 (S or N above the maximum less 2, or E at the maximum), 9 and 12 for the checkpoint, 9, 10, 11 (offset) for the
+ * log's records one by one, 13 (lane). */
+paviluko_reply paviluko_recover(paviluko_state s, const uint8_t *checkpoint, size_t checkpoint_len, const uint8_t *log,
+                                size_t log_len, uint8_t *out, size_t room);
+
+/* ---- for a host and a screen: a state's fields, whatever the state ---- */
+
+/* The latest reading of a meter. Readings are true of the visible transactions while recovering and in service. */
+paviluko_entry paviluko_reading(paviluko_state s, uint8_t meter);
+/* The vault's numbers, as they stand when the store named last is done. */
+paviluko_vault paviluko_numbers(paviluko_state s);
+uint8_t paviluko_phase(paviluko_state s);
+paviluko_due paviluko_due_store(paviluko_state s);
+/* How many accepted records are listed, of PAVILUKO_LISTED, and how many points are kept, of PAVILUKO_POINTS. */
+uint64_t paviluko_records(paviluko_state s);
+uint64_t paviluko_points_kept(paviluko_state s);
+
+#ifdef __cplusplus
+}
+#endif
+
+/* ---- the same with the state behind a pointer ----
+ * Each calls the function of its name with *s, writes the next state to *s, and returns what was said. NULL may stand for a
+ * buffer of length 0. */
+
+static inline const uint8_t *paviluko_some(const uint8_t *p)
+{
+    static const uint8_t none = 0;
+    return p ? p : &none;
+}
+
+/* A load that is turned down leaves *s as it was. */
+static inline paviluko_said paviluko_do_load(paviluko_state *s, const paviluko_vault *x, const uint8_t *key, size_t key_len)
+{
+    paviluko_reply r = paviluko_load(*x, paviluko_some(key), key_len);
+    if (r.said.number == PAVILUKO_TAKEN) {
+        *s = r.state;
+    }
+    return r.said;
+}
+
+static inline paviluko_said paviluko_do_accept(paviluko_state *s, const uint8_t *transaction, size_t len, uint8_t lane,
+                                               uint64_t position)
+{
+    paviluko_reply r = paviluko_accept(*s, paviluko_some(transaction), len, lane, position);
+    *s = r.state;
+    return r.said;
+}
+
+static inline paviluko_said paviluko_do_seal(paviluko_state *s, uint8_t *out, size_t room)
+{
+    uint8_t none = 0;
+    paviluko_reply r = paviluko_seal(*s, out ? out : &none, out ? room : 0);
+    *s = r.state;
+    return r.said;
+}
+
+static inline paviluko_said paviluko_do_commit(paviluko_state *s, const uint8_t *record, size_t len)
+{
+    paviluko_reply r = paviluko_commit(*s, paviluko_some(record), len);
+    *s = r.state;
+    return r.said;
+}
+
+static inline paviluko_said paviluko_do_point(paviluko_state *s, uint64_t position)
+{
+    paviluko_reply r = paviluko_point(*s, position);
+    *s = r.state;
+    return r.said;
+}
+
+static inline paviluko_said paviluko_do_checkpoint(paviluko_state *s, uint8_t *out, size_t room)
+{
+    uint8_t none = 0;
+    paviluko_reply r = paviluko_checkpoint(*s, out ? out : &none, out ? room : 0);
+    *s = r.state;
+    return r.said;
+}
+
+static inline paviluko_said paviluko_do_truncate(paviluko_state *s, uint64_t position)
+{
+    paviluko_reply r = paviluko_truncate(*s, position);
+    *s = r.state;
+    return r.said;
+}
+
+static inline paviluko_said paviluko_do_recover(paviluko_state *s, const uint8_t *checkpoint, size_t checkpoint_len,
+                                                const uint8_t *log, size_t log_len, uint8_t *out, size_t room)
+{
+    uint8_t none = 0;
+    paviluko_reply r = paviluko_recover(*s, paviluko_some(checkpoint), checkpoint_len, paviluko_some(log), log_len,
+                                        out ? out : &none, out ? room : 0);
+    *s = r.state;
+    return r.said;
+}
+
+#undef PAVILUKO_ASSERT
+#endif

@@ -1,0 +1,358 @@
+/* The boundary as a C program meets it: the library and include/paviluko.h agree on every struct, a short session runs, and
+ * a call that is turned down hands the state back as it came. */
+#include <stdio.h>
+#include <stdlib.h>
+#include <string.h>
+
+#include "paviluko.h"
+
+static long checks;
+
+#define CHECK(test)                                                   \
+    do {                                                              \
+        checks++;                                                     \
+        if (!(test)) {                                                \
+            printf("boundary: line %d: %s is false\n", __LINE__, #test); \
+            exit(1);                                                  \
+        }                                                             \
+    } while (0)
+
+/* ---- equality field by field: padding may differ ---- */
+
+static int same_entry(const paviluko_entry *a, const paviluko_entry *b)
+{
+    return a->stamp == b->stamp && a->number == b->number && a->reading == b->reading && a->code == b->code &&
+           a->lane == b->lane && a->present == b->present;
+}
+
+static int same_mark(const paviluko_mark *a, const paviluko_mark *b)
+{
+    return a->position == b->position && memcmp(a->counts, b->counts, sizeof a->counts) == 0 && a->covered == b->covered;
+}
+
+static int same_due(const paviluko_due *a, const paviluko_due *b)
+{
+    return a->position == b->position && a->kind == b->kind && a->lane == b->lane && a->second == b->second;
+}
+
+static int same_state(const paviluko_state *a, const paviluko_state *b)
+{
+    int same = memcmp(&a->vault, &b->vault, sizeof a->vault) == 0 && same_due(&a->due, &b->due);
+    for (int i = 0; i < PAVILUKO_METERS; i++) {
+        same = same && same_entry(&a->table.entries[i], &b->table.entries[i]);
+    }
+    same = same && memcmp(a->journal.positions, b->journal.positions, sizeof a->journal.positions) == 0 &&
+           memcmp(a->journal.lanes, b->journal.lanes, sizeof a->journal.lanes) == 0 &&
+           a->journal.count == b->journal.count && a->journal.used == b->journal.used && a->journal.last == b->journal.last;
+    for (int i = 0; i < PAVILUKO_POINTS; i++) {
+        same = same && same_mark(&a->points.items[i], &b->points.items[i]);
+    }
+    same = same && a->points.count == b->points.count && a->points.any == b->points.any &&
+           a->points.newest == b->points.newest;
+    same = same && memcmp(a->held.text, b->held.text, sizeof a->held.text) == 0 && a->held.len == b->held.len &&
+           a->held.lane == b->held.lane && a->held.position == b->held.position;
+    return same && memcmp(a->key, b->key, sizeof a->key) == 0 && a->phase == b->phase;
+}
+
+/* ---- the host's side: a vault, a card of a few records, and the newest file ---- */
+
+static paviluko_vault vault;
+static uint8_t out[PAVILUKO_CHECKPOINT_LEN];
+static uint8_t file[PAVILUKO_CHECKPOINT_LEN];
+static uint8_t log_bytes[4 * PAVILUKO_RECORD_MAX];
+static size_t log_len;
+
+static void carry_out(paviluko_said said)
+{
+    switch (said.store) {
+    case PAVILUKO_STORE_W: vault.w[said.lane] = said.value; break;
+    case PAVILUKO_STORE_V: vault.v[said.lane] = said.value; break;
+    case PAVILUKO_STORE_R: vault.r[said.lane] = said.value; break;
+    case PAVILUKO_STORE_E: vault.e = said.value; break;
+    case PAVILUKO_STORE_S: vault.s = said.value; break;
+    case PAVILUKO_STORE_N: vault.n = said.value; break;
+    case PAVILUKO_STORE_RECORD:
+        memcpy(log_bytes + log_len, out, said.len);
+        log_len += said.len;
+        break;
+    case PAVILUKO_STORE_FILE: memcpy(file, out, said.len); break;
+    case PAVILUKO_STORE_DELETE:
+    case PAVILUKO_STORE_EMPTY: log_len = 0; break;
+    default: break;
+    }
+}
+
+static void taken(paviluko_said said, int store, int lane, uint64_t value, size_t len)
+{
+    CHECK(said.number == PAVILUKO_TAKEN);
+    CHECK(said.store == store && said.lane == lane && said.value == value && said.len == len);
+    carry_out(said);
+}
+
+static void refused(paviluko_said said, int number, uint64_t value)
+{
+    CHECK(said.number == number && said.value == value);
+    CHECK(said.store == 0 && said.lane == 0 && said.len == 0);
+}
+
+/* Each operation on s is turned down with this number, and hands s back. */
+static void all_refused(const paviluko_state *s, int number)
+{
+    paviluko_reply r[7];
+    r[0] = paviluko_accept(*s, file, 16, 0, 1);
+    r[1] = paviluko_seal(*s, out, sizeof out);
+    r[2] = paviluko_commit(*s, file, 56);
+    r[3] = paviluko_point(*s, 1);
+    r[4] = paviluko_checkpoint(*s, out, sizeof out);
+    r[5] = paviluko_truncate(*s, 1);
+    r[6] = paviluko_recover(*s, file, 0, file, 0, out, sizeof out);
+    for (int i = 0; i < 7; i++) {
+        refused(r[i].said, number, 0);
+        CHECK(same_state(&r[i].state, s));
+    }
+}
+
+/* ---- structs ---- */
+
+static paviluko_state fill(void)
+{
+    paviluko_state s;
+    uint64_t k = 1;
+    memset(&s, 0, sizeof s);
+    for (int i = 0; i < PAVILUKO_LANES; i++) {
+        s.vault.w[i] = k++;
+        s.vault.v[i] = k++;
+        s.vault.r[i] = k++;
+    }
+    s.vault.e = k++;
+    s.vault.s = k++;
+    s.vault.n = k++;
+    s.due.position = k++;
+    s.due.kind = PAVILUKO_DUE_TRUNCATE_R;
+    s.due.lane = 5;
+    for (int i = 0; i < PAVILUKO_METERS; i++) {
+        paviluko_entry *e = &s.table.entries[i];
+        e->stamp = k++ << 32;
+        e->number = k++;
+        e->reading = -(int32_t)k++;
+        e->code = (uint8_t)(1 + i % 4);
+        e->lane = (uint8_t)(i % 8);
+        e->present = (uint8_t)(i % 2);
+    }
+    for (int i = 0; i < PAVILUKO_LISTED; i++) {
+        s.journal.positions[i] = k++;
+        s.journal.lanes[i] = (uint8_t)k++;
+    }
+    s.journal.count = 77;
+    s.journal.used = 1;
+    s.journal.last = k++;
+    for (int i = 0; i < PAVILUKO_POINTS; i++) {
+        s.points.items[i].position = k++;
+        for (int j = 0; j < PAVILUKO_LANES; j++) {
+            s.points.items[i].counts[j] = k++;
+        }
+        s.points.items[i].covered = (uint8_t)(i % 2);
+    }
+    s.points.count = 6;
+    s.points.any = 1;
+    s.points.newest = k++;
+    for (int i = 0; i < PAVILUKO_TRANSACTION_MAX; i++) {
+        s.held.text[i] = (uint8_t)k++;
+    }
+    s.held.len = 131;
+    s.held.lane = 3;
+    s.held.position = k++;
+    for (int i = 0; i < PAVILUKO_KEY_LEN; i++) {
+        s.key[i] = (uint8_t)k++;
+    }
+    s.phase = PAVILUKO_IN_SERVICE;
+    return s;
+}
+
+static void structs(void)
+{
+    paviluko_state s = fill();
+    paviluko_vault x = paviluko_numbers(s);
+    paviluko_due d = paviluko_due_store(s);
+    CHECK(memcmp(&x, &s.vault, sizeof x) == 0);
+    CHECK(same_due(&d, &s.due));
+    CHECK(paviluko_phase(s) == PAVILUKO_IN_SERVICE);
+    CHECK(paviluko_records(s) == 77);
+    CHECK(paviluko_points_kept(s) == 6);
+    for (int i = 0; i < PAVILUKO_METERS; i++) {
+        paviluko_entry e = paviluko_reading(s, (uint8_t)i);
+        CHECK(same_entry(&e, &s.table.entries[i]));
+    }
+
+    /* The vault breaks load's rule: thawed, refused, frozen, with every kind of due store and every phase. */
+    for (int kind = 0; kind <= PAVILUKO_DUE_RECOVER_EMPTY; kind++) {
+        int lane = kind == 4 || kind == 9 || kind == 11;
+        int position = kind == 4 || kind == 5;
+        int second = kind == 6 || kind == 7;
+        for (int phase = 0; phase <= 2; phase++) {
+            s = fill();
+            s.vault.v[0] = s.vault.w[0] + 1;
+            s.due.kind = (uint8_t)kind;
+            s.due.lane = (uint8_t)(lane ? 5 : 0);
+            s.due.position = position ? 1 : 0;
+            s.due.second = (uint8_t)second;
+            s.phase = (uint8_t)phase;
+            all_refused(&s, PAVILUKO_CONDITION);
+        }
+        /* Numbers that no due store has. */
+        s = fill();
+        s.due.kind = (uint8_t)kind;
+        s.due.lane = lane ? 5 : 0;
+        s.due.position = position ? 1 : 0;
+        s.due.second = second ? 2 : 1;
+        all_refused(&s, PAVILUKO_CONDITION);
+    }
+    s = fill();
+    s.due.kind = 13;
+    all_refused(&s, PAVILUKO_CONDITION);
+    s = fill();
+    s.phase = 3;
+    all_refused(&s, PAVILUKO_CONDITION);
+}
+
+/* ---- a session ---- */
+
+static const uint8_t key[PAVILUKO_KEY_LEN] = {1, 2, 3, 4, 5, 6, 7, 8, 9, 10, 11, 12, 13, 14, 15, 16};
+/* Stamp 1000, meter 9, code 3, reading -5. */
+static const uint8_t transaction[16] = {0xe8, 3, 0, 0, 0, 0, 0, 0, 9, 0, 3, 0, 0xfb, 0xff, 0xff, 0xff};
+
+static void recover(paviluko_state *s, int calls)
+{
+    size_t file_len = vault.s == 0 ? 0 : PAVILUKO_CHECKPOINT_LEN;
+    int k = 0;
+    uint8_t old[sizeof file];
+    memcpy(old, file, sizeof old);
+    CHECK(paviluko_phase(*s) == PAVILUKO_COLD);
+    do {
+        paviluko_said said = paviluko_do_recover(s, old, file_len, log_bytes, log_len, out, sizeof out);
+        CHECK(said.number == PAVILUKO_TAKEN);
+        CHECK(said.len == (said.store == PAVILUKO_STORE_FILE ? PAVILUKO_CHECKPOINT_LEN : 0));
+        carry_out(said);
+        paviluko_vault x = paviluko_numbers(*s);
+        CHECK(memcmp(&x, &vault, sizeof x) == 0);
+        k++;
+    } while (s->phase == PAVILUKO_RECOVERING);
+    CHECK(s->phase == PAVILUKO_IN_SERVICE && k == calls && log_len == 0);
+    CHECK(s->journal.count == 0 && s->points.count == 0 && s->due.kind == PAVILUKO_DUE_NOTHING);
+}
+
+static void nine(const paviluko_state *s)
+{
+    paviluko_entry e = paviluko_reading(*s, 9);
+    CHECK(e.present == 1 && e.stamp == 1000 && e.number == 1 && e.reading == -5 && e.code == 3 && e.lane == 2);
+    e = paviluko_reading(*s, 8);
+    CHECK(e.present == 0 && e.stamp == 0 && e.reading == 0);
+}
+
+static void session(void)
+{
+    static paviluko_state s;
+    paviluko_state was;
+    paviluko_vault wrong;
+
+    /* Load: 2 and 3 leave the state that there was; its own answer then is one that takes no call. */
+    s = was = fill();
+    wrong = vault;
+    wrong.r[3] = 1;
+    refused(paviluko_do_load(&s, &wrong, key, 16), PAVILUKO_NUMBERS, 0);
+    refused(paviluko_do_load(&s, &vault, NULL, 0), PAVILUKO_LENGTH, 16);
+    CHECK(same_state(&s, &was));
+    paviluko_reply blank = paviluko_load(vault, key, 15);
+    all_refused(&blank.state, PAVILUKO_CONDITION);
+
+    taken(paviluko_do_load(&s, &vault, key, 16), PAVILUKO_STORE_NONE, 0, 0, 0);
+    CHECK(s.phase == PAVILUKO_COLD && memcmp(s.key, key, 16) == 0);
+    was = s;
+    refused(paviluko_do_recover(&s, NULL, 0, file, PAVILUKO_LOG_MAX + 1, NULL, 0), PAVILUKO_LENGTH, PAVILUKO_LOG_MAX);
+    refused(paviluko_do_recover(&s, file, 1, NULL, 0, NULL, 0), PAVILUKO_CLOSED, 0);
+    refused(paviluko_do_recover(&s, NULL, 0, file, 60, NULL, 0), PAVILUKO_CLOSED, 0);
+    CHECK(same_state(&s, &was));
+    recover(&s, 15);
+    CHECK(vault.s == 2 && vault.n == 2 && vault.e == 0);
+
+    /* A transaction of lane 2 at position 10. */
+    was = s;
+    refused(paviluko_do_accept(&s, transaction, 15, 2, 10), PAVILUKO_TRANSACTION, 0);
+    refused(paviluko_do_accept(&s, NULL, 0, 2, 10), PAVILUKO_TRANSACTION, 0);
+    refused(paviluko_do_accept(&s, transaction, 16, 8, 10), PAVILUKO_LANE, 0);
+    refused(paviluko_do_truncate(&s, 10), PAVILUKO_NO_POINT, 0);
+    CHECK(same_state(&s, &was));
+    taken(paviluko_do_accept(&s, transaction, 16, 2, 10), PAVILUKO_STORE_W, 2, 1, 0);
+    CHECK(s.due.kind == PAVILUKO_DUE_RECORD && paviluko_records(s) == 1);
+    CHECK(s.journal.positions[0] == 10 && s.journal.lanes[0] == 2 && s.journal.used == 1 && s.journal.last == 10);
+    CHECK(s.held.len == 16 && s.held.lane == 2 && s.held.position == 10 && memcmp(s.held.text, transaction, 16) == 0);
+    was = s;
+    refused(paviluko_do_accept(&s, transaction, 16, 2, 11), PAVILUKO_CONDITION, 0);
+    refused(paviluko_do_seal(&s, out, 55), PAVILUKO_LENGTH, 56);
+    refused(paviluko_do_seal(&s, NULL, 0), PAVILUKO_LENGTH, 56);
+    CHECK(same_state(&s, &was));
+    memset(out, 0xaa, sizeof out);
+    taken(paviluko_do_seal(&s, out, sizeof out), PAVILUKO_STORE_RECORD, 0, 10, 56);
+    CHECK(out[0] == 1 && out[1] == 2 && out[2] == 16 && out[12] == 1 && out[52] == 56 && out[56] == 0xaa);
+    was = s;
+    refused(paviluko_do_point(&s, 11), PAVILUKO_UNSEEN, 0);
+    refused(paviluko_do_accept(&s, transaction, 16, 2, 10), PAVILUKO_POSITION, 0);
+    refused(paviluko_do_commit(&s, log_bytes, 55), PAVILUKO_CLOSED, 0);
+    refused(paviluko_do_commit(&s, NULL, 0), PAVILUKO_CLOSED, 0);
+    CHECK(same_state(&s, &was));
+    taken(paviluko_do_commit(&s, log_bytes, log_len), PAVILUKO_STORE_V, 2, 1, 0);
+    nine(&s);
+    was = s;
+    refused(paviluko_do_commit(&s, log_bytes, log_len), PAVILUKO_TURN, 0);
+    CHECK(same_state(&s, &was));
+
+    /* A cut, and back: the record comes from the log. Then one more that is sealed and not committed: 24 calls. */
+    memset(&s, 0, sizeof s);
+    taken(paviluko_do_load(&s, &vault, key, 16), PAVILUKO_STORE_NONE, 0, 0, 0);
+    was = s;
+    refused(paviluko_do_recover(&s, file, sizeof file, NULL, 0, NULL, 0), PAVILUKO_MISSING, 2);
+    CHECK(same_state(&s, &was));
+    recover(&s, 15);
+    nine(&s);
+    taken(paviluko_do_accept(&s, transaction, 16, 7, 0), PAVILUKO_STORE_W, 7, 1, 0);
+    taken(paviluko_do_load(&s, &vault, key, 16), PAVILUKO_STORE_NONE, 0, 0, 0);
+    recover(&s, 24);
+    CHECK(vault.e == 1 && vault.v[7] == 1 && vault.r[7] == 1);
+    nine(&s);
+
+    /* A point, a checkpoint, and the truncation at the point. */
+    taken(paviluko_do_point(&s, 5), PAVILUKO_STORE_NONE, 0, 0, 0);
+    CHECK(paviluko_points_kept(s) == 1 && s.points.any == 1 && s.points.newest == 5);
+    CHECK(s.points.items[0].position == 5 && s.points.items[0].covered == 0);
+    CHECK(s.points.items[0].counts[2] == 1 && s.points.items[0].counts[7] == 1 && s.points.items[0].counts[0] == 0);
+    was = s;
+    refused(paviluko_do_truncate(&s, 5), PAVILUKO_NO_POINT, 0);
+    CHECK(same_state(&s, &was));
+    taken(paviluko_do_checkpoint(&s, NULL, 0), PAVILUKO_STORE_N, 0, 7, 0);
+    was = s;
+    refused(paviluko_do_checkpoint(&s, out, sizeof out - 1), PAVILUKO_LENGTH, PAVILUKO_CHECKPOINT_LEN);
+    CHECK(same_state(&s, &was));
+    taken(paviluko_do_checkpoint(&s, out, sizeof out), PAVILUKO_STORE_FILE, 0, 0, PAVILUKO_CHECKPOINT_LEN);
+    CHECK(out[0] == 2 && out[4] == 7 && out[12] == 7);
+    taken(paviluko_do_checkpoint(&s, NULL, 0), PAVILUKO_STORE_S, 0, 7, 0);
+    CHECK(s.points.items[0].covered == 1);
+    for (int lane = 0; lane < PAVILUKO_LANES; lane++) {
+        taken(paviluko_do_truncate(&s, 5), PAVILUKO_STORE_R, lane, lane == 2 || lane == 7, 0);
+        CHECK(s.due.position == 5 && s.due.lane == (lane + 1) % 8);
+    }
+    was = s;
+    refused(paviluko_do_truncate(&s, 6), PAVILUKO_CONDITION, 0);
+    CHECK(same_state(&s, &was));
+    taken(paviluko_do_truncate(&s, 5), PAVILUKO_STORE_DELETE, 0, 5, 0);
+    CHECK(paviluko_points_kept(s) == 0 && s.due.kind == PAVILUKO_DUE_NOTHING);
+    nine(&s);
+}
+
+int main(void)
+{
+    structs();
+    session();
+    printf("boundary: %ld checks passed; state %zu bytes, reply %zu\n", checks, sizeof(paviluko_state),
+           sizeof(paviluko_reply));
+    return 0;
+}
