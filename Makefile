@@ -1,8 +1,14 @@
-# make test: the whole gate. make bench: us and other libraries, side by side.
-.PHONY: test bench
+# make test: the whole gate. make bench: us and other libraries, side by side. make torture N=..: more random histories.
+.PHONY: test bench torture
+
+N ?= 20000
+SEED ?= 1000000
 
 test:
 	@bash tests/all.sh
 
 bench:
 	@bash bench/all.sh
+
+torture:
+	@bash tests/histories/torture.sh $(N) $(SEED)

@@ -1,9 +1,11 @@
 #!/usr/bin/env bash
-# Builds what is measured, and measures it: the cipher beside other libraries, what seals beside the cipher.
+# Builds what is measured, and measures it: the cipher beside other libraries, what seals beside the cipher, and the library
+# as firmware calls it.
 set -euo pipefail
 cd "$(dirname "$0")/.."
 
 rt staticlib cipher_c | tail -n 1
 rt staticlib sealed_c | tail -n 1
 rt staticlib collector_c | tail -n 1
+rt staticlib paviluko | tail -n 1
 sh bench/run.sh

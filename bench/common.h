@@ -7,7 +7,7 @@
 #include <stdint.h>
 #include <time.h>
 
-static void fill(uint8_t *to, size_t n)
+static inline void fill(uint8_t *to, size_t n)
 {
     static uint64_t state = 0x5eed;
     for (size_t i = 0; i < n; i++) {
@@ -18,11 +18,22 @@ static void fill(uint8_t *to, size_t n)
     }
 }
 
-static double now_ns(void)
+static inline double ns_of(clockid_t clock)
 {
     struct timespec t;
-    clock_gettime(CLOCK_MONOTONIC, &t);
+    clock_gettime(clock, &t);
     return 1e9 * (double)t.tv_sec + (double)t.tv_nsec;
+}
+
+static inline double now_ns(void)
+{
+    return ns_of(CLOCK_MONOTONIC);
+}
+
+/* The time that this program had a processor. */
+static inline double worked_ns(void)
+{
+    return ns_of(CLOCK_PROCESS_CPUTIME_ID);
 }
 
 #endif

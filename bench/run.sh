@@ -1,14 +1,15 @@
 #!/bin/sh
-# Benchmarks of the static libraries: the cipher against other libraries, and records, checkpoint files and transactions
-# against the bare cipher. Run from the repository's top; the libraries are built before.
+# Benchmarks of the static libraries: the cipher against other libraries; records, checkpoint files and transactions
+# against the bare cipher; a day of all collectors, and the stack of each call, through the C boundary. Run from the repository's top; the libraries are built before.
 set -eu
 
 library=target/staticlib/libcipher_c.a
 sealed=target/staticlib/libsealed_c.a
 collector=target/staticlib/libcollector_c.a
+boundary=target/staticlib/libpaviluko.a
 built=target/bench
 
-for each in "$library" "$sealed" "$collector"; do
+for each in "$library" "$sealed" "$collector" "$boundary"; do
     [ -f "$each" ] || { echo "$each is missing: build it first" >&2; exit 1; }
 done
 sh tests/cipher/packages.sh gcc libc6-dev libssl-dev libmbedtls-dev libbearssl-dev \
@@ -20,7 +21,13 @@ gcc -O2 -Wall -Wextra -Werror -rdynamic -Itests/cipher -o "$built/cipher" bench/
     "$library" -lcrypto -lmbedcrypto -lbearssl -lnettle -lgcrypt
 gcc -O2 -Wall -Wextra -Werror -Itests/cipher -Itests/sealed -o "$built/sealed" bench/sealed.c \
     "$collector" "$sealed" "$library"
+gcc -O2 -Wall -Wextra -Werror -Itests/cipher -o "$built/day" bench/day.c "$boundary" "$library"
+gcc -O2 -Wall -Wextra -Werror -o "$built/stack" bench/stack.c "$boundary" -lpthread
 
 "$built/cipher"
 echo
 "$built/sealed"
+echo
+"$built/day"
+echo
+"$built/stack"

@@ -24,4 +24,8 @@ sh tests/cipher/run.sh
 rt staticlib sealed_c | tail -n 1
 sh tests/sealed/run.sh
 
+rt staticlib paviluko | tail -n 1
+sh tests/boundary/run.sh
+sh tests/histories/run.sh
+
 echo "$verdict"

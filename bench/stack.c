@@ -1,0 +1,150 @@
+/* How much stack a call takes: it is made on a thread whose stack was painted before, and what is no longer painted behind
+   it was used.  The state that is handed over and the reply stand on that stack too, some 8 KB each; the second column is
+   without them. */
+
+#define _GNU_SOURCE
+
+#include "../include/paviluko.h"
+
+#include <pthread.h>
+#include <stdio.h>
+#include <stdlib.h>
+#include <string.h>
+
+enum { STACK = 1 << 20, PAINT = 0xa5, RECORDS = 128 };
+
+static const uint8_t key[PAVILUKO_KEY_LEN] = { 7 };
+static paviluko_state state, next;
+static paviluko_said said;
+static uint8_t out[PAVILUKO_CHECKPOINT_LEN], record[PAVILUKO_RECORD_MAX], transaction[PAVILUKO_TRANSACTION_MAX];
+static uint8_t card_log[RECORDS * PAVILUKO_RECORD_MAX], card_file[PAVILUKO_CHECKPOINT_LEN];
+static size_t log_len, file_len;
+static uint64_t position;
+
+static void keep(const paviluko_reply *r)
+{
+    next = r->state;
+    said = r->said;
+}
+
+static void *nothing(void *unused)
+{
+    return unused;
+}
+
+/* Each makes one call on `state`, by value. */
+#define CALL(name, call)                \
+    static void *name(void *unused)     \
+    {                                   \
+        paviluko_reply r = call;        \
+        keep(&r);                       \
+        return unused;                  \
+    }
+
+CALL(load, paviluko_load(state.vault, key, sizeof key))
+CALL(accept_one, paviluko_accept(state, transaction, sizeof transaction, (uint8_t)(position % 8), position))
+CALL(seal, paviluko_seal(state, record, sizeof record))
+CALL(commit, paviluko_commit(state, record, sizeof record))
+CALL(point, paviluko_point(state, position))
+CALL(checkpoint, paviluko_checkpoint(state, out, sizeof out))
+CALL(truncate_at, paviluko_truncate(state, position))
+CALL(recover, paviluko_recover(state, card_file, file_len, card_log, log_len, out, sizeof out))
+
+/* The bytes of stack that a thread takes. */
+static size_t used(void *(*work)(void *))
+{
+    static uint8_t *stack;
+    pthread_attr_t with;
+    pthread_t thread;
+    if (!stack && posix_memalign((void **)&stack, 4096, STACK))
+        exit(1);
+    memset(stack, PAINT, STACK);
+    pthread_attr_init(&with);
+    pthread_attr_setstack(&with, stack, STACK);
+    if (pthread_create(&thread, &with, work, NULL) || pthread_join(thread, NULL))
+        exit(1);
+    size_t clean = 0;
+    while (clean < STACK && stack[clean] == PAINT)
+        clean++;
+    return STACK - clean;
+}
+
+static size_t idle;
+
+/* Makes a call, which is to be taken, and takes its state over. */
+static size_t step(void *(*work)(void *))
+{
+    size_t bytes = used(work) - idle;
+    if (said.number != PAVILUKO_TAKEN) {
+        fprintf(stderr, "stack: a call was turned down with %d\n", said.number);
+        exit(1);
+    }
+    state = next;
+    return bytes;
+}
+
+static void line(const char *name, size_t bytes)
+{
+    printf("%-34s %6.1f KB %6.1f KB\n", name, (double)bytes / 1024,
+           ((double)bytes - sizeof(paviluko_state) - sizeof(paviluko_reply)) / 1024);
+}
+
+static size_t most(size_t a, size_t b)
+{
+    return a < b ? b : a;
+}
+
+/* Goes on with a recovery; the most that a call took, and in `file` the most of those that put a file out. */
+static size_t go_on(size_t *file)
+{
+    size_t other = 0;
+    *file = 0;
+    while (state.phase != PAVILUKO_IN_SERVICE) {
+        size_t bytes = step(recover);
+        if (said.store == PAVILUKO_STORE_FILE) {
+            *file = most(*file, bytes);
+            memcpy(card_file, out, sizeof out);
+            file_len = sizeof out;
+        } else {
+            other = most(other, bytes);
+        }
+    }
+    return other;
+}
+
+int main(void)
+{
+    size_t file;
+    idle = used(nothing);
+    transaction[0] = 1;
+    for (int i = 0; i < 16; i++) {
+        transaction[8 + 8 * i] = (uint8_t)i;
+        transaction[8 + 8 * i + 2] = 1;
+    }
+    printf("%-34s %9s %9s\n", "", "in all", "beyond");
+    line("load", step(load));
+    go_on(&file);
+    size_t accepting = 0, sealing = 0, committing = 0;
+    for (position = 1; position <= RECORDS; position++) {
+        accepting = most(accepting, step(accept_one));
+        sealing = most(sealing, step(seal));
+        memcpy(card_log + log_len, record, sizeof record);
+        log_len += sizeof record;
+        committing = most(committing, step(commit));
+    }
+    line("accept", accepting);
+    line("seal", sealing);
+    line("commit", committing);
+    paviluko_state before = state;
+    line("point", step(point));
+    line("checkpoint, N", step(checkpoint));
+    line("checkpoint, the file", step(checkpoint));
+    line("checkpoint, S", step(checkpoint));
+    line("truncate, R", step(truncate_at));
+    state = before;
+    step(load);
+    line("recover, reading a card", step(recover));
+    line("recover, the other calls", go_on(&file));
+    line("recover, a file", file);
+    return 0;
+}

@@ -1,0 +1,9 @@
+#!/usr/bin/env bash
+# Runs so many random histories of 400 events, from a seed on, with a progress line.
+set -euo pipefail
+cd "$(dirname "$0")/../.."
+
+[ -f target/staticlib/libpaviluko.a ] || rt staticlib paviluko | tail -n 1
+sh tests/cipher/packages.sh gcc libc6-dev libssl-dev
+cargo build --release --offline --locked --quiet -p paviluko_histories
+target-rust/release/histories --histories "$1" --events 400 --seed "$2" --progress
