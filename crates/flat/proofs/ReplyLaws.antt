@@ -1,5 +1,6 @@
--- A call whose reply has another number than 0 hands back the state that came, number for number, and puts nothing out. So a host may go on
--- with the state in the reply, whatever the number.
+-- The state in a reply is known, and stands for the state of the definition's answer: calls over the boundary, each handed the state last
+-- returned, are the definitions' calls. And a call whose reply has another number than 0 hands back the state that came, number for number,
+-- and puts nothing out. So a host may go on with the state in the reply, whatever the number.
 -- Assumes nothing.
 use Prim.Native.Nat.{ℕ}
 use mathlib.Core.Path.{_≡_, refl, ap, _∙_}
@@ -16,9 +17,34 @@ use Rattle.protocol.specs.declared.Store.{Store}
 use Rattle.protocol.specs.declared.Store.the-variants as S
 use Rattle.protocol.proofs.RefusalLaws.{keptBy, Kept, accept-kept, seal-kept, commit-kept, point-kept, checkpoint-kept, truncate-kept, recover-kept}
 use Rattle.flat.specs.declared.FlatState.{FlatState}
+use Rattle.flat.specs.declared.Reply.{Reply}
 use Rattle.flat.specs.Flat.{known, thaw, freeze}
 use Rattle.flat.specs.Replies.{named, saidOf, replyOf, notAState, replyTo, putTo}
-use Rattle.flat.proofs.FlatLaws.{freeze-thaw}
+use Rattle.flat.proofs.FlatLaws.{thaw-freeze, freeze-is-known, freeze-thaw}
+
+-- ---- the next call
+
+-- the first call, Load, is handed no state
+pub first-known : (a : Answered) → known (replyOf a .state) ≡ true
+unfolding replyOf
+first-known a = freeze-is-known (a .state)
+
+pub first-is : (a : Answered) → thaw (replyOf a .state) ≡ a .state
+unfolding replyOf
+first-is a = thaw-freeze (a .state)
+
+module _ (s : FlatState) (a : Answered) (e : known s ≡ true) where
+  reply-is : replyTo s a ≡ replyOf a
+  unfolding replyTo
+  reply-is = rw e
+
+  pub next-known : known (replyTo s a .state) ≡ true
+  next-known = ap (λ (r : Reply). known (r .state)) reply-is ∙ first-known a
+
+  pub next-is : thaw (replyTo s a .state) ≡ a .state
+  next-is = ap (λ (r : Reply). thaw (r .state)) reply-is ∙ first-is a
+
+-- ---- refusals
 
 -- a call that is taken has number 0
 pub named-0 : (st : Store) (n : ℕ) → named st n .number ≡ 0
