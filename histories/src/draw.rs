@@ -38,7 +38,7 @@ pub fn call(host: &mut Host, model: Option<&Model>) -> Drawn {
     if host.style == Style::Long && !host.filled {
         return filling(host, model);
     }
-    let stuck = host.style == Style::Wild && !model.vault.legal(&host.params);
+    let stuck = host.wild() && !model.vault.legal(&host.params);
     let loads = match host.style {
         _ if stuck => 300,
         Style::Journal => 2,
@@ -124,7 +124,7 @@ fn filling(host: &mut Host, model: &Model) -> Drawn {
 
 fn load(host: &mut Host) -> Drawn {
     let key = host.cipher.key().to_vec();
-    if host.style == Style::Wild {
+    if host.wild() {
         let vault = any_vault(&mut host.rng, &host.params);
         host.vault = vault.clone();
         let mut key = key;
@@ -368,7 +368,7 @@ fn commit(host: &mut Host, model: &Model) -> Call {
         }
         2 => good.or_else(|| host.rng.pick(&host.records).cloned()).map(|record| damaged(&mut host.rng, &record)),
         3 => Some(any_bytes(host)),
-        4 if host.style == Style::Wild => Some(forged_record(host, model)),
+        4 if host.wild() => Some(forged_record(host, model)),
         _ => good,
     };
     let record = match record {
@@ -532,7 +532,7 @@ fn recover_faithful(host: &mut Host, model: &Model) -> Drawn {
 
 /// The first call.
 fn recover(host: &mut Host, model: &Model) -> Drawn {
-    if host.style == Style::Wild {
+    if host.wild() {
         return recover_forged(host, model);
     }
     if host.rng.permille(600) {
@@ -810,6 +810,13 @@ fn recover_forged(host: &mut Host, model: &Model) -> Drawn {
         3 if !records.is_empty() => {
             records.remove(host.rng.index(records.len()));
         }
+        4 if !records.is_empty() => {
+            // Another epoch's record of the same number.
+            let at = host.rng.index(records.len());
+            let (lane, epoch, number) = head(&records[at]);
+            let text = a_transaction(&mut host.rng, &host.params).bytes();
+            records[at] = sealed::seal_record(&host.cipher, lane as u8, epoch ^ 1, number, &text).into();
+        }
         _ => {}
     }
     plain(Call::Recover { checkpoint, log: records.concat().into(), room })
@@ -827,11 +834,64 @@ fn odd_number(rng: &mut Rng, params: &Params) -> u64 {
     }
 }
 
-/// A state made from a model's, with something about it changed.
-pub fn odd(rng: &mut Rng, model: &Model) -> Raw {
-    let params = &model.params;
-    let mut raw = Raw::of(model);
-    for _ in 0..1 + rng.below(3) {
+/// A state in service: any numbers within the rule, points and records in rising order, a transaction held.
+fn service(host: &mut Host) -> Raw {
+    let Host { rng, params, cipher, .. } = host;
+    let mut vault = any_vault(rng, params);
+    while !vault.legal(params) {
+        vault = any_vault(rng, params);
+    }
+    let mut raw = Raw::of(&Model::cold(params, &vault, Rc::clone(cipher)));
+    raw.phase = 2;
+    raw.entries = a_table(rng, params).entries;
+    rising_points(rng, params, &mut raw);
+    rising_records(rng, params, &mut raw);
+    hold(rng, params, &mut raw);
+    raw
+}
+
+/// Points in rising order.
+fn rising_points(rng: &mut Rng, params: &Params, raw: &mut Raw) {
+    let mut position = rng.below(5);
+    for point in &mut raw.points {
+        point.position = position;
+        point.covered = rng.permille(600);
+        point.counts.iter_mut().for_each(|count| *count = rng.below(12));
+        position += 1 + rng.below(4);
+    }
+    raw.points_count = rng.index(params.points + 1);
+    raw.newest = Some(position);
+}
+
+/// Records in rising order.
+fn rising_records(rng: &mut Rng, params: &Params, raw: &mut Raw) {
+    let mut position = rng.below(30);
+    for listed in &mut raw.listed {
+        *listed = Listed { position, lane: lane(rng, params) };
+        position += 1 + rng.below(2);
+    }
+    raw.listed_count = if rng.permille(100) { params.records - rng.index(3) } else { rng.index(12) };
+    raw.last = Some(position);
+}
+
+/// A transaction held.
+fn hold(rng: &mut Rng, params: &Params, raw: &mut Raw) {
+    raw.text = a_transaction(rng, params).bytes();
+    raw.text_len = raw.text.len();
+    raw.text.resize(8 + 8 * params.writes, 0);
+    raw.held_lane = lane(rng, params);
+    raw.held_position = odd_number(rng, params);
+}
+
+/// A state with something about it changed: the one that there is, or one in service.
+pub fn odd(host: &mut Host, model: Option<&Model>) -> Raw {
+    let here = model.filter(|_| host.rng.permille(if host.style == Style::Odd { 300 } else { 900 }));
+    let mut raw = match here {
+        Some(model) => Raw::of(model),
+        None => service(host),
+    };
+    let Host { rng, params, .. } = host;
+    for _ in 0..rng.below(4) {
         match rng.below(14) {
             0 => raw.phase = if rng.permille(800) { rng.below(3) as u8 } else { rng.any() as u8 },
             1..=3 => {
@@ -886,33 +946,31 @@ pub fn odd(rng: &mut Rng, model: &Model) -> Raw {
             9 => {
                 // Anything held.
                 raw.text = if rng.permille(500) { a_transaction(rng, params).bytes() } else { rng.bytes(136) };
-                raw.text_len = if rng.permille(600) { raw.text.len() } else { rng.index(200) };
+                raw.text_len = match rng.below(10) {
+                    0..=5 => raw.text.len(),
+                    6 => rng.any() as usize,
+                    _ => rng.index(200),
+                };
                 raw.text.resize(8 + 8 * params.writes, 0);
                 raw.held_lane = rng.below(9) as u8;
                 raw.held_position = odd_number(rng, params);
             }
             10 | 11 => {
-                // Points, in rising order.
-                let mut position = rng.below(5);
-                for point in &mut raw.points {
-                    point.position = position;
-                    point.covered = rng.permille(600);
-                    point.counts.iter_mut().for_each(|count| *count = rng.below(12));
-                    position += 1 + rng.below(4);
+                rising_points(rng, params, &mut raw);
+                if rng.permille(400) {
+                    // In no order, and some of them twice.
+                    raw.points.iter_mut().for_each(|point| point.position = rng.below(8));
                 }
-                raw.points_count = rng.index(params.points + 1);
-                raw.newest = Some(position);
             }
             12 => {
-                // Records, in rising order.
-                let mut position = rng.below(10);
-                for listed in &mut raw.listed {
-                    *listed = Listed { position, lane: lane(rng, params) };
-                    position += 1 + rng.below(2);
-                }
-                raw.listed_count = rng.index(12);
-                raw.last = Some(position);
+                rising_records(rng, params, &mut raw);
                 raw.newest = rng.permille(500).then(|| rng.below(20));
+                if rng.permille(400) {
+                    // In no order, and some of no lane.
+                    for listed in &mut raw.listed {
+                        *listed = Listed { position: rng.below(20), lane: rng.below(10) as u8 };
+                    }
+                }
             }
             _ => raw.entries = a_table(rng, params).entries,
         }

@@ -27,6 +27,8 @@ pub enum Style {
     Aged,
     /// Any numbers, forged records and files, handed states: no claim about the whole, only the comparison.
     Wild,
+    /// The same, with a handed state for every few calls.
+    Odd,
 }
 
 /// A named store that is not yet done.
@@ -84,7 +86,12 @@ pub struct Host {
 impl Host {
     /// Whether the premises of the claim about whole histories hold.
     pub fn bound(&self) -> bool {
-        self.style != Style::Wild
+        !self.wild()
+    }
+
+    /// Whether states are handed over and bytes are forged.
+    pub fn wild(&self) -> bool {
+        matches!(self.style, Style::Wild | Style::Odd)
     }
 }
 
@@ -97,14 +104,15 @@ pub fn run<D: Device, R: Reference>(
     tally: &mut Tally,
 ) -> Result<(), String> {
     let mut rng = Rng::new(seed);
-    let style = match rng.weighted(&[520, 60, 80, 120, 2, 70, 148]) {
+    let style = match rng.weighted(&[500, 60, 80, 110, 2, 70, 110, 68]) {
         0 => Style::Plain,
         1 => Style::Journal,
         2 => Style::Points,
         3 => Style::Cuts,
         4 => Style::Long,
         5 => Style::Aged,
-        _ => Style::Wild,
+        6 => Style::Wild,
+        _ => Style::Odd,
     };
     let params = Params::scope();
     let mut key = [0; 16];
@@ -188,7 +196,7 @@ impl<D: Device, R: Reference> World<'_, D, R> {
         let host = &mut self.host;
         let cuts = match host.style {
             Style::Plain | Style::Points | Style::Aged => 8,
-            Style::Wild => 3,
+            Style::Wild | Style::Odd => 3,
             Style::Journal => 1,
             Style::Cuts => 40,
             Style::Long => 0,
@@ -198,11 +206,13 @@ impl<D: Device, R: Reference> World<'_, D, R> {
             host.filled |= cut_now;
             return Event::Cut { done: cut_now || host.rng.permille(500) };
         }
-        if host.style == Style::Wild
-            && host.rng.permille(60)
-            && let Some(model) = self.reference.model()
-        {
-            return Event::Hand(Box::new(draw::odd(&mut host.rng, model)));
+        let handed = match host.style {
+            Style::Wild => 60,
+            Style::Odd => 350,
+            _ => 0,
+        };
+        if host.rng.permille(handed) {
+            return Event::Hand(Box::new(draw::odd(host, self.reference.model())));
         }
         // A named store is done before the next call.
         if let Err(what) = self.carry_out() {
