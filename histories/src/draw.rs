@@ -892,7 +892,7 @@ pub fn odd(host: &mut Host, model: Option<&Model>) -> Raw {
     };
     let Host { rng, params, .. } = host;
     for _ in 0..rng.below(4) {
-        match rng.below(14) {
+        match rng.below(15) {
             0 => raw.phase = if rng.permille(800) { rng.below(3) as u8 } else { rng.any() as u8 },
             1..=3 => {
                 // Any due store, in the phase that it is for or another.
@@ -970,6 +970,14 @@ pub fn odd(host: &mut Host, model: Option<&Model>) -> Raw {
                     for listed in &mut raw.listed {
                         *listed = Listed { position: rng.below(20), lane: rng.below(10) as u8 };
                     }
+                }
+            }
+            13 => {
+                // A field of the due store that its kind may not use.
+                match rng.below(3) {
+                    0 => raw.due.position = rng.below(20),
+                    1 => raw.due.lane = rng.below(9) as u8,
+                    _ => raw.due.second = rng.below(3) as u8,
                 }
             }
             _ => raw.entries = a_table(rng, params).entries,

@@ -54,23 +54,23 @@ fn raw_due(due: Due) -> RawDue {
     }
 }
 
-/// What the codes of a due store mean.
+/// What the codes of a due store mean: nothing where a field that the kind does not use is not 0.
 pub fn due_of(raw: &RawDue) -> Due {
     let RawDue { position, kind, lane, second } = *raw;
-    match (kind, second) {
-        (0, _) => Due::Nothing,
-        (1, _) => Due::Record,
-        (2, _) => Due::File,
-        (3, _) => Due::Version,
-        (4, _) => Due::TruncateR { lane, position },
-        (5, _) => Due::TruncateDelete { position },
-        (6, 0 | 1) => Due::RecoverFile { second: second == 1 },
-        (7, 0 | 1) => Due::RecoverVersion { second: second == 1 },
-        (8, _) => Due::RecoverSeal,
-        (9, _) => Due::RecoverR { lane },
-        (10, _) => Due::RecoverEpoch,
-        (11, _) => Due::RecoverV { lane },
-        (12, _) => Due::RecoverEmpty,
+    match (kind, lane, position, second) {
+        (0, 0, 0, 0) => Due::Nothing,
+        (1, 0, 0, 0) => Due::Record,
+        (2, 0, 0, 0) => Due::File,
+        (3, 0, 0, 0) => Due::Version,
+        (4, _, _, 0) => Due::TruncateR { lane, position },
+        (5, 0, _, 0) => Due::TruncateDelete { position },
+        (6, 0, 0, 0 | 1) => Due::RecoverFile { second: second == 1 },
+        (7, 0, 0, 0 | 1) => Due::RecoverVersion { second: second == 1 },
+        (8, 0, 0, 0) => Due::RecoverSeal,
+        (9, _, 0, 0) => Due::RecoverR { lane },
+        (10, 0, 0, 0) => Due::RecoverEpoch,
+        (11, _, 0, 0) => Due::RecoverV { lane },
+        (12, 0, 0, 0) => Due::RecoverEmpty,
         _ => Due::Unknown,
     }
 }
