@@ -128,8 +128,10 @@ fn load(host: &mut Host) -> Drawn {
         let vault = any_vault(&mut host.rng, &host.params);
         host.vault = vault.clone();
         let mut key = key;
-        if host.rng.permille(50) {
-            key = wrong_key(&mut host.rng);
+        match host.rng.below(20) {
+            0 => key = wrong_key(&mut host.rng),
+            1 => key = host.other.key().to_vec(),
+            _ => {}
         }
         return plain(Call::Load { vault, key });
     }
@@ -980,7 +982,16 @@ pub fn odd(host: &mut Host, model: Option<&Model>) -> Raw {
                     _ => raw.due.second = rng.below(3) as u8,
                 }
             }
-            _ => raw.entries = a_table(rng, params).entries,
+            _ => {
+                let mut table = a_table(rng, params);
+                if rng.permille(200) {
+                    // Codes and lanes that there are not.
+                    for entry in table.entries.iter_mut().flatten() {
+                        (entry.code, entry.lane) = (rng.below(8) as u8, rng.below(10) as u8);
+                    }
+                }
+                raw.entries = table.entries;
+            }
         }
     }
     raw

@@ -33,27 +33,6 @@ pub struct Raw {
     pub phase: u8,
 }
 
-/// The boundary's codes of a due store.
-fn raw_due(due: Due) -> RawDue {
-    let plain = |kind: u8| RawDue { position: 0, kind, lane: 0, second: 0 };
-    match due {
-        Due::Nothing => plain(0),
-        Due::Record => plain(1),
-        Due::File => plain(2),
-        Due::Version => plain(3),
-        Due::TruncateR { lane, position } => RawDue { lane, position, ..plain(4) },
-        Due::TruncateDelete { position } => RawDue { position, ..plain(5) },
-        Due::RecoverFile { second } => RawDue { second: second.into(), ..plain(6) },
-        Due::RecoverVersion { second } => RawDue { second: second.into(), ..plain(7) },
-        Due::RecoverSeal => plain(8),
-        Due::RecoverR { lane } => RawDue { lane, ..plain(9) },
-        Due::RecoverEpoch => plain(10),
-        Due::RecoverV { lane } => RawDue { lane, ..plain(11) },
-        Due::RecoverEmpty => plain(12),
-        Due::Unknown => plain(13),
-    }
-}
-
 /// What the codes of a due store mean: nothing where a field that the kind does not use is not 0.
 pub fn due_of(raw: &RawDue) -> Due {
     let RawDue { position, kind, lane, second } = *raw;
@@ -95,6 +74,27 @@ fn counted<T: Clone>(places: &[T], count: usize) -> Vec<T> {
 }
 
 impl Raw {
+    /// The boundary's codes of a due store.
+    pub fn due(due: Due) -> RawDue {
+        let plain = |kind: u8| RawDue { position: 0, kind, lane: 0, second: 0 };
+        match due {
+            Due::Nothing => plain(0),
+            Due::Record => plain(1),
+            Due::File => plain(2),
+            Due::Version => plain(3),
+            Due::TruncateR { lane, position } => RawDue { lane, position, ..plain(4) },
+            Due::TruncateDelete { position } => RawDue { position, ..plain(5) },
+            Due::RecoverFile { second } => RawDue { second: second.into(), ..plain(6) },
+            Due::RecoverVersion { second } => RawDue { second: second.into(), ..plain(7) },
+            Due::RecoverSeal => plain(8),
+            Due::RecoverR { lane } => RawDue { lane, ..plain(9) },
+            Due::RecoverEpoch => plain(10),
+            Due::RecoverV { lane } => RawDue { lane, ..plain(11) },
+            Due::RecoverEmpty => plain(12),
+            Due::Unknown => plain(13),
+        }
+    }
+
     /// A model's state.
     pub fn of(model: &Model) -> Raw {
         let params = &model.params;
@@ -107,7 +107,7 @@ impl Raw {
         text.resize(8 + 8 * params.writes, 0);
         Raw {
             vault: model.vault.clone(),
-            due: raw_due(model.due),
+            due: Raw::due(model.due),
             entries: model.table.entries.clone(),
             listed,
             listed_count: model.records.len(),

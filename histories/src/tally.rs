@@ -26,6 +26,10 @@ pub struct Tally {
     pub spent: u64,
     /// Bytes of the longest log of a card that kept faith.
     pub longest: usize,
+    /// First Recover calls with what another card handed over: accepted, and refused.
+    pub other_cards: [u64; 2],
+    /// Cuts by the kind of the store that was due, and by whether the store named last was done.
+    pub cut_at: [[u64; 2]; 13],
 }
 
 impl Tally {
@@ -55,9 +59,18 @@ impl Tally {
             (self.book[1], "no accepted Recover had a table with readings to compare with the book's"),
             (self.faithful[1], "no card that kept faith was recovered with readings"),
             (self.spent, "no card that kept faith met a spent counter"),
+            (self.other_cards[0], "no other card was taken"),
             (self.recoveries[0], "no recovery of 15 stores"),
             (self.recoveries[1], "no recovery of 24 stores"),
         ];
+        for (kind, cuts) in self.cut_at.iter().enumerate() {
+            for (done, count) in cuts.iter().enumerate() {
+                if *count == 0 {
+                    let done = if done == 1 { "done" } else { "not done" };
+                    out.push(format!("no cut while a store of kind {kind} was due, the one before it {done}"));
+                }
+            }
+        }
         out.extend(halves.iter().filter(|(count, _)| *count == 0).map(|(_, what)| what.to_string()));
         out
     }
@@ -96,6 +109,13 @@ impl Tally {
             out,
             "cards that kept faith: {} accepted, {} with readings, {} with a counter spent; longest log {} bytes",
             self.faithful[0], self.faithful[1], self.spent, self.longest
+        );
+        let _ = writeln!(
+            out,
+            "other cards: {} accepted, {} refused; cuts at each due store, done or not: at least {}",
+            self.other_cards[0],
+            self.other_cards[1],
+            self.cut_at.iter().flatten().min().unwrap_or(&0)
         );
         out
     }

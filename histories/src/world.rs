@@ -4,7 +4,7 @@ use std::collections::HashSet;
 use std::rc::Rc;
 
 use paviluko_model::card::Line;
-use paviluko_model::{Book, Card, Cipher, Params, Phase, Store, Table, Vault, sealed};
+use paviluko_model::{Book, Card, Cipher, Due, Params, Phase, Store, Table, Vault, sealed};
 
 use crate::device::{Answer, Call, Device, Reference};
 use crate::draw::{self, Drawn};
@@ -172,6 +172,13 @@ impl<D: Device, R: Reference> World<'_, D, R> {
         match self.draw() {
             Event::Cut { done } => {
                 self.tally.cuts += 1;
+                if self.host.bound()
+                    && self.pending.is_some()
+                    && let Some(model) = self.reference.model()
+                {
+                    let kind = usize::from(Raw::due(model.due).kind);
+                    self.tally.cut_at[kind.min(12)][usize::from(done)] += 1;
+                }
                 if done {
                     self.carry_out()?;
                 }
@@ -198,7 +205,12 @@ impl<D: Device, R: Reference> World<'_, D, R> {
             Style::Plain | Style::Points | Style::Aged => 8,
             Style::Wild | Style::Odd => 3,
             Style::Journal => 1,
-            Style::Cuts => 40,
+            // More of them where a store comes up seldom.
+            Style::Cuts => match self.reference.model().map(|model| model.due) {
+                Some(Due::File | Due::Version | Due::TruncateDelete { .. }) => 250,
+                Some(Due::RecoverEpoch | Due::RecoverEmpty | Due::RecoverSeal) => 80,
+                _ => 35,
+            },
             Style::Long => 0,
         };
         let cut_now = host.style == Style::Long && draw::long_is_full(host, self.reference.model());
@@ -310,6 +322,9 @@ impl<D: Device, R: Reference> World<'_, D, R> {
                 }
                 _ => return Err("a card that kept faith was not answered as it should be".to_string()),
             }
+        }
+        if bound && was_cold && !drawn.faithful && matches!(call, Call::Recover { .. }) {
+            self.tally.other_cards[usize::from(answer.is_err())] += 1;
         }
         let Ok(taken) = answer else { return Ok(()) };
         let Some(model) = self.reference.model() else { return Err("a taken call left no state".to_string()) };

@@ -106,9 +106,29 @@ impl Drop for Cipher {
     }
 }
 
+/// A product in GF(2^8), modulo x^8 + x^4 + x^3 + x + 1.
+fn product(a: u8, b: u8) -> u8 {
+    (0..8).rev().fold(0, |sum: u8, i| {
+        let doubled = sum << 1 ^ if sum & 0x80 != 0 { 0x1b } else { 0 };
+        doubled ^ if b >> i & 1 == 1 { a } else { 0 }
+    })
+}
+
+/// The AES S-box by its rule: the affine map of the inverse, with 0 for the inverse of 0.
+pub fn s_box(byte: u8) -> u8 {
+    let inverse = (0..=255).find(|&other| product(byte, other) == 1).unwrap_or(0);
+    (0..5).fold(0x63, |sum, turn| sum ^ inverse.rotate_left(turn))
+}
+
 #[cfg(test)]
 mod tests {
     use super::*;
+
+    /// The bench sheet's M2, and the last entry of FIPS 197's table.
+    #[test]
+    fn s_box_entries() {
+        assert_eq!((s_box(0x00), s_box(0x53), s_box(0xff)), (0x63, 0xed, 0x16));
+    }
 
     /// Test case 4 of the GCM paper.
     #[test]
