@@ -70,7 +70,7 @@ fn in_service(out: &mut [u8]) -> Collector {
 }
 
 #[test]
-fn a_session() {
+fn from_load_to_recovery() {
     let mut out = [0; FILE_LEN];
     let mut c = in_service(&mut out);
     assert_eq!(c.numbers(), Numbers { s: 2, n: 2, ..Numbers::default() });

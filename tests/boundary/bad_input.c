@@ -282,6 +282,37 @@ static void loads(const uint8_t *record, size_t record_len)
     free(key);
 }
 
+/* NULL for a buffer of length 0, through the functions that take a pointer to the state: the answer is that of an empty
+ * buffer. */
+static void nulls(const paviluko_state *s, const paviluko_vault *x)
+{
+    uint8_t one = 0;
+    paviluko_state t;
+    paviluko_said said[6];
+    const paviluko_reply wanted[6] = {
+        paviluko_load(*x, &one, 0),      paviluko_accept(*s, &one, 0, 0, 99),
+        paviluko_seal(*s, &one, 0),      paviluko_commit(*s, &one, 0),
+        paviluko_checkpoint(*s, &one, 0), paviluko_recover(*s, &one, 0, &one, 0, &one, 0),
+    };
+    for (int i = 0; i < 6; i++) {
+        t = *s;
+        switch (i) {
+        case 0: said[i] = paviluko_do_load(&t, x, NULL, 0); break;
+        case 1: said[i] = paviluko_do_accept(&t, NULL, 0, 0, 99); break;
+        case 2: said[i] = paviluko_do_seal(&t, NULL, 0); break;
+        case 3: said[i] = paviluko_do_commit(&t, NULL, 0); break;
+        case 4: said[i] = paviluko_do_checkpoint(&t, NULL, 0); break;
+        default: said[i] = paviluko_do_recover(&t, NULL, 0, NULL, 0, NULL, 0); break;
+        }
+        /* A refused load leaves the state. */
+        if (said[i].number != wanted[i].said.number || said[i].value != wanted[i].said.value ||
+            !same_state(&t, i == 0 ? s : &wanted[i].state)) {
+            wrong("NULL", "not the answer of an empty buffer", &said[i]);
+        }
+        calls += 2;
+    }
+}
+
 int main(int argc, char **argv)
 {
     long rounds = argc > 1 ? atol(argv[1]) : 200;
@@ -316,10 +347,13 @@ int main(int argc, char **argv)
         good[states] = paviluko_truncate(good[states - 1], 11).state;
     }
     if (record_len != 56 || good[states - 1].vault.r[5] != 1 || good[states - 1].due.kind != PAVILUKO_DUE_NOTHING) {
-        fprintf(stderr, "the session did not come to its end\n");
+        fprintf(stderr, "the good states did not come to their end\n");
         return 1;
     }
 
+    for (size_t i = 0; i < states; i++) {
+        nulls(&good[i], &x);
+    }
     for (long round = 0; round < rounds; round++) {
         paviluko_state s;
         random_state(&s);

@@ -34,6 +34,9 @@ quietly cargo test --release --offline --locked --quiet -p paviluko_model
 quietly cargo test --release --offline --locked --quiet -p paviluko_host --test agreement
 echo "C boundary: Rust's declarations agree with the library"
 
+quietly cargo test --release --offline --locked --quiet -p paviluko_host --test bits
+echo "C boundary: no bit of a record or a checkpoint can be turned over"
+
 quietly cargo test --release --offline --locked --quiet -p paviluko_histories --lib
 echo "histories: each of 15 faults put into a model is caught"
 
