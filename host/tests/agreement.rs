@@ -1,5 +1,5 @@
-//! Rust's declarations against the library: sizes and offsets are asserted where they are declared; here a session is
-//! gone through, and what the library says of a state is what stands in its fields.
+//! Rust's declarations against the library: sizes and offsets are asserted where they are declared; here a collector goes
+//! from Load to a recovery, and what the library says of a state is what stands in its fields.
 
 use paviluko_host::{Collector, Due, FILE_LEN, LANES, METERS, Numbers, Phase, RECORD_LEN, Refusal, Store, Taken, ffi};
 
