@@ -2,7 +2,7 @@
 
 use paviluko_histories::raw::{RawDue, due_of, phase_of};
 use paviluko_histories::{Answer, Call, Device, Raw};
-use paviluko_host::{Collector, ffi};
+use paviluko_host::{Collector, LANES, POINTS, RECORDS, ffi};
 use paviluko_model::{Due, Entry, Model, Refusal, Store, Taken, Vault};
 
 /// A collector, or none, and its state before the last call.
@@ -19,14 +19,14 @@ impl Library {
     }
 }
 
-/// The first eight numbers.
-fn eight(numbers: &[u64]) -> [u64; 8] {
+/// A number for each lane.
+fn lanes(numbers: &[u64]) -> [u64; LANES] {
     std::array::from_fn(|i| numbers.get(i).copied().unwrap_or(0))
 }
 
 fn numbers(vault: &Vault) -> ffi::Vault {
     let Vault { w, v, r, e, s, n } = vault;
-    ffi::Vault { w: eight(w), v: eight(v), r: eight(r), e: *e, s: *s, n: *n }
+    ffi::Vault { w: lanes(w), v: lanes(v), r: lanes(r), e: *e, s: *s, n: *n }
 }
 
 fn entry(entry: &Option<Entry>) -> ffi::Entry {
@@ -65,7 +65,7 @@ fn state(raw: &Raw) -> ffi::State {
     let RawDue { position, kind, lane, second } = raw.due;
     let mark = |i: usize| match raw.points.get(i) {
         Some(point) => {
-            ffi::Mark { position: point.position, counts: eight(&point.counts), covered: point.covered.into() }
+            ffi::Mark { position: point.position, counts: lanes(&point.counts), covered: point.covered.into() }
         }
         None => ffi::Mark::default(),
     };
@@ -121,10 +121,10 @@ fn difference(s: &ffi::State, model: &Model) -> Option<String> {
     }
     // A count above the places stands for one more than them in the model.
     let (journal, points) = (&s.journal, &s.points);
-    if journal.count.min(129) != model.records.len() {
+    if journal.count.min(RECORDS + 1) != model.records.len() {
         return Some(format!("records {}, {}", journal.count, model.records.len()));
     }
-    for (i, listed) in model.records.iter().take(128).enumerate() {
+    for (i, listed) in model.records.iter().take(RECORDS).enumerate() {
         if (journal.positions[i], journal.lanes[i]) != (listed.position, listed.lane) {
             return Some(format!("record {i}: {} {}, {listed:?}", journal.positions[i], journal.lanes[i]));
         }
@@ -132,11 +132,11 @@ fn difference(s: &ffi::State, model: &Model) -> Option<String> {
     if perhaps(journal.used, journal.last) != model.last {
         return Some(format!("last position {} {}, {:?}", journal.used, journal.last, model.last));
     }
-    if points.count.min(9) != model.points.len() {
+    if points.count.min(POINTS + 1) != model.points.len() {
         return Some(format!("points {}, {}", points.count, model.points.len()));
     }
     for (mark, point) in points.items.iter().zip(&model.points) {
-        if (mark.position, mark.counts, mark.covered == 1) != (point.position, eight(&point.counts), point.covered) {
+        if (mark.position, mark.counts, mark.covered == 1) != (point.position, lanes(&point.counts), point.covered) {
             return Some(format!("{mark:?}, {point:?}"));
         }
     }
@@ -145,6 +145,7 @@ fn difference(s: &ffi::State, model: &Model) -> Option<String> {
     }
     if let (Due::Record, Some(held)) = (model.due, &model.held) {
         let ffi::Held { text, len, lane, position } = &s.held;
+        // A length above the places holds no text in the model.
         let same = text.get(..*len).unwrap_or(&[]) == held.text && (*lane, *position) == (held.lane, held.position);
         if !same {
             return Some(format!("held {:?}, {held:?}", s.held));
