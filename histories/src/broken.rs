@@ -1,0 +1,246 @@
+//! The histories on models that are wrong in one place: each must be caught. A wrong device is held against the right
+//! model; where a claim about the whole history breaks, a wrong device is also held against one that is as wrong.
+
+use crate::{Answer, Call, Device, Raw, Reference, Tally, Twin, run};
+use paviluko_model::{Due, Listed, Model, Params, Phase, Rank, Refusal, Store, Table};
+
+/// What is wrong.
+#[derive(Clone, Copy, Debug, PartialEq, Eq)]
+enum Fault {
+    /// The lowest lane wins a tie.
+    Order,
+    /// Truncate names R of every lane and sets lane 0's alone.
+    LaneZeroAlone,
+    /// Recover makes one checkpoint.
+    OneCheckpoint,
+    /// Recover raises V before R.
+    VisibleFirst,
+    /// Recover leaves V below W.
+    VisibleLeft,
+    /// A point counts from the start of service.
+    CountsFromService,
+    /// Accept says 7 on an empty list.
+    FullAtOnce,
+    /// Recover turns every log down.
+    NoCard,
+    /// Recover hands an empty table over.
+    EmptyTable,
+    /// Seal leaves its buffer.
+    UntouchedBuffer,
+    /// Seal writes behind the record.
+    BytesBehind,
+    /// A refused Point drops the records below it.
+    RefusedPoint,
+    /// A point that no checkpoint covers can be truncated at.
+    Uncovered,
+    /// Commit enters nothing into the table.
+    NotEntered,
+    /// The epoch stays in recovery.
+    EpochStays,
+}
+
+/// The model with a fault.
+struct Broken {
+    fault: Fault,
+    twin: Twin,
+    /// W when service began.
+    began: Vec<u64>,
+}
+
+impl Broken {
+    fn new(fault: Fault) -> Broken {
+        let mut params = Params::scope();
+        if fault == Fault::Order {
+            params.later = |a: &Rank, b: &Rank| (a.stamp, b.lane, a.number) > (b.stamp, a.lane, b.number);
+        }
+        Broken { fault, twin: Twin::new(&params), began: Vec::new() }
+    }
+}
+
+impl Device for Broken {
+    fn call(&mut self, call: &Call, out: &mut [u8]) -> Answer {
+        let before = self.twin.model.clone();
+        if let (Fault::FullAtOnce, Call::Accept { .. }, Some(model)) = (self.fault, call, &before)
+            && model.records.is_empty()
+            && model.clone().call_is_taken(call)
+        {
+            return Err(Refusal { number: 7, value: 0 });
+        }
+        if let (Fault::NoCard, Call::Recover { .. }, Some(model)) = (self.fault, call, &before)
+            && model.phase == Phase::Cold
+            && model.clone().call_is_taken(call)
+        {
+            return Err(Refusal { number: 9, value: 0 });
+        }
+        if let (Fault::Uncovered, Call::Truncate { .. }, Some(model)) = (self.fault, call, &mut self.twin.model) {
+            model.points.iter_mut().for_each(|point| point.covered = true);
+        }
+        let kept = out.to_vec();
+        let mut answer = self.twin.call(call, out);
+        let Some(model) = &mut self.twin.model else { return answer };
+        let was = |due: Due| before.as_ref().is_some_and(|model| model.due == due);
+        match (self.fault, call) {
+            (Fault::LaneZeroAlone, Call::Truncate { .. }) => {
+                if let (Ok(taken), Some(before)) = (&answer, &before)
+                    && let Some(Store::R { lane, .. }) = taken.store
+                    && lane > 0
+                {
+                    model.vault.r[usize::from(lane)] = before.vault.r[usize::from(lane)];
+                }
+            }
+            (Fault::OneCheckpoint, Call::Recover { .. }) if model.due == Due::RecoverSeal => {
+                model.due = Due::RecoverR { lane: 0 };
+            }
+            (Fault::VisibleFirst, Call::Recover { .. }) => {
+                // E, V, then R: the stores' order is turned round.
+                if was(Due::RecoverVersion { second: true }) && model.vault.w != model.vault.v && answer.is_ok() {
+                    model.due = Due::RecoverEpoch;
+                } else if model.due == Due::RecoverEmpty && was(Due::RecoverV { lane: 7 }) {
+                    model.due = Due::RecoverR { lane: 0 };
+                }
+            }
+            (Fault::VisibleLeft, Call::Recover { .. }) if model.due == (Due::RecoverV { lane: 0 }) => {
+                model.due = Due::RecoverEmpty;
+            }
+            (Fault::EpochStays, Call::Recover { .. }) if model.due == Due::RecoverEpoch => {
+                model.due = Due::RecoverV { lane: 0 };
+            }
+            (Fault::CountsFromService, Call::Recover { .. }) if model.phase == Phase::InService => {
+                self.began = model.vault.w.clone();
+            }
+            (Fault::CountsFromService, Call::Point { .. }) if answer.is_ok() => {
+                if let Some(point) = model.points.last_mut() {
+                    for (count, began) in point.counts.iter_mut().zip(&self.began) {
+                        *count = count.saturating_sub(*began);
+                    }
+                }
+            }
+            (Fault::EmptyTable, Call::Recover { .. }) if was(Due::Nothing) && answer.is_ok() => {
+                model.table = Table::empty(&model.params);
+            }
+            (Fault::UntouchedBuffer, Call::Seal { .. }) => out.copy_from_slice(&kept),
+            (Fault::BytesBehind, Call::Seal { .. }) => {
+                if let Ok(taken) = &mut answer
+                    && let Some(byte) = out.get_mut(taken.len)
+                {
+                    *byte ^= 1;
+                }
+            }
+            (Fault::RefusedPoint, Call::Point { position }) if answer.is_err() => {
+                model.records.retain(|listed: &Listed| listed.position >= *position);
+            }
+            (Fault::NotEntered, Call::Commit { .. }) if answer.is_ok() => {
+                if let Some(before) = before {
+                    model.table = before.table;
+                }
+            }
+            _ => {}
+        }
+        answer
+    }
+
+    fn cut(&mut self) {
+        self.twin.cut();
+    }
+
+    fn hand(&mut self, raw: &Raw) {
+        self.twin.hand(raw);
+    }
+
+    fn unchanged(&self) -> bool {
+        true
+    }
+
+    fn differs(&self, model: Option<&Model>) -> Option<String> {
+        self.twin.differs(model)
+    }
+}
+
+impl Reference for Broken {
+    fn model(&self) -> Option<&Model> {
+        self.twin.model()
+    }
+}
+
+/// Tries a call on a copy.
+trait Tried {
+    fn call_is_taken(self, call: &Call) -> bool;
+}
+
+impl Tried for Model {
+    fn call_is_taken(self, call: &Call) -> bool {
+        let mut twin = Twin { params: self.params, model: Some(self) };
+        twin.call(call, &mut []).is_ok()
+    }
+}
+
+/// Runs histories until one fails.
+fn first_failure(histories: u64, one: impl Fn(u64, &mut Tally) -> Result<(), String>) -> Option<String> {
+    let mut tally = Tally::default();
+    (1..=histories).find_map(|seed| one(seed, &mut tally).err())
+}
+
+/// A fault on one side.
+fn caught(fault: Fault) {
+    let scope = Params::scope();
+    let failure = first_failure(400, |seed, tally| run(Broken::new(fault), Twin::new(&scope), seed, 400, tally));
+    assert!(failure.is_some(), "{fault:?} passes");
+}
+
+/// A fault on both sides: caught by what holds of whole histories.
+fn caught_alone(fault: Fault, says: &str) {
+    let failure = first_failure(2000, |seed, tally| run(Broken::new(fault), Broken::new(fault), seed, 400, tally));
+    let Some(failure) = failure else { panic!("{fault:?} on both sides passes") };
+    assert!(failure.contains(says), "{fault:?} on both sides: {failure}");
+}
+
+#[test]
+fn a_fault_on_one_side_is_caught() {
+    for fault in [
+        Fault::Order,
+        Fault::LaneZeroAlone,
+        Fault::OneCheckpoint,
+        Fault::VisibleFirst,
+        Fault::VisibleLeft,
+        Fault::CountsFromService,
+        Fault::FullAtOnce,
+        Fault::NoCard,
+        Fault::EmptyTable,
+        Fault::UntouchedBuffer,
+        Fault::BytesBehind,
+        Fault::RefusedPoint,
+        Fault::Uncovered,
+        Fault::NotEntered,
+        Fault::EpochStays,
+    ] {
+        caught(fault);
+    }
+}
+
+#[test]
+fn a_fault_on_both_sides_is_caught_by_the_book_and_the_card() {
+    caught_alone(Fault::Order, "is not as in the book");
+    caught_alone(Fault::EmptyTable, "is not as in the book");
+    caught_alone(Fault::NoCard, "a card that kept faith");
+    caught_alone(Fault::LaneZeroAlone, "the state's numbers are not the vault's");
+    caught_alone(Fault::CountsFromService, "lowers a vault number");
+    caught_alone(Fault::Uncovered, "");
+    caught_alone(Fault::NotEntered, "is not as in the book");
+    caught_alone(Fault::VisibleFirst, "a card that kept faith");
+    caught_alone(Fault::OneCheckpoint, "a recovery of");
+    caught_alone(Fault::VisibleLeft, "a recovery of");
+    caught_alone(Fault::EpochStays, "a recovery of");
+}
+
+/// The right model against itself: nothing fails, and everything comes up.
+#[test]
+fn the_model_agrees_with_itself() {
+    let scope = Params::scope();
+    let mut tally = Tally::default();
+    for seed in 1..=1000 {
+        let ran = run(Twin::new(&scope), Twin::new(&scope), seed, 400, &mut tally);
+        assert_eq!(ran, Ok(()));
+    }
+    println!("{}", tally.table());
+    assert_eq!(tally.missing(), Vec::<String>::new());
+}

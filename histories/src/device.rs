@@ -1,0 +1,181 @@
+//! What a history is run on.
+
+use std::fmt;
+use std::rc::Rc;
+
+use paviluko_model::{Model, Params, Refusal, Taken, Vault};
+
+use crate::Raw;
+
+/// A call's answer.
+pub type Answer = Result<Taken, Refusal>;
+
+/// A call with its arguments; an output is lent with so much room.
+#[derive(Clone)]
+pub enum Call {
+    Load { vault: Vault, key: Vec<u8> },
+    Accept { transaction: Vec<u8>, lane: u8, position: u64 },
+    Seal { room: usize },
+    Commit { record: Rc<[u8]> },
+    Point { position: u64 },
+    Checkpoint { room: usize },
+    Truncate { position: u64 },
+    Recover { checkpoint: Rc<[u8]>, log: Rc<[u8]>, room: usize },
+}
+
+/// The operations' names, in the order of `Call::operation`.
+pub const OPERATIONS: [&str; 8] = ["Load", "Accept", "Seal", "Commit", "Point", "Checkpoint", "Truncate", "Recover"];
+
+/// The numbers that each operation can return.
+pub const NUMBERS: [&[u8]; 8] = [
+    &[2, 3],
+    &[1, 4, 5, 6, 7, 8],
+    &[1, 3],
+    &[1, 9, 10, 11],
+    &[1, 6, 7, 15],
+    &[1, 3, 8],
+    &[1, 14],
+    &[1, 3, 8, 9, 10, 11, 12, 13],
+];
+
+impl Call {
+    /// Which operation it calls.
+    pub fn operation(&self) -> usize {
+        match self {
+            Call::Load { .. } => 0,
+            Call::Accept { .. } => 1,
+            Call::Seal { .. } => 2,
+            Call::Commit { .. } => 3,
+            Call::Point { .. } => 4,
+            Call::Checkpoint { .. } => 5,
+            Call::Truncate { .. } => 6,
+            Call::Recover { .. } => 7,
+        }
+    }
+
+    /// How much room it lends.
+    pub fn room(&self) -> usize {
+        match self {
+            Call::Seal { room } | Call::Checkpoint { room } | Call::Recover { room, .. } => *room,
+            _ => 0,
+        }
+    }
+}
+
+/// Bytes in hexadecimal, the first few.
+fn hex(bytes: &[u8]) -> String {
+    let mut out: String = bytes.iter().take(200).map(|b| format!("{b:02x}")).collect();
+    if bytes.len() > 200 {
+        out += "...";
+    }
+    format!("{} bytes {out}", bytes.len())
+}
+
+impl fmt::Display for Call {
+    fn fmt(&self, to: &mut fmt::Formatter) -> fmt::Result {
+        match self {
+            Call::Load { vault, key } => write!(to, "Load {vault:?}, key {}", hex(key)),
+            Call::Accept { transaction, lane, position } => {
+                write!(to, "Accept {}, lane {lane}, position {position}", hex(transaction))
+            }
+            Call::Seal { room } => write!(to, "Seal, room {room}"),
+            Call::Commit { record } => write!(to, "Commit {}", hex(record)),
+            Call::Point { position } => write!(to, "Point {position}"),
+            Call::Checkpoint { room } => write!(to, "Checkpoint, room {room}"),
+            Call::Truncate { position } => write!(to, "Truncate {position}"),
+            Call::Recover { checkpoint, log, room } => {
+                write!(to, "Recover checkpoint {}, log {}, room {room}", hex(checkpoint), hex(log))
+            }
+        }
+    }
+}
+
+/// A device under test. It has a state or none; a refused Load leaves what it had.
+pub trait Device {
+    /// Calls an operation. Without a state only Load is called.
+    fn call(&mut self, call: &Call, out: &mut [u8]) -> Answer;
+
+    /// Loses the state.
+    fn cut(&mut self);
+
+    /// Takes this state in place of its own.
+    fn hand(&mut self, raw: &Raw);
+
+    /// Whether the last call left the whole state as it was.
+    fn unchanged(&self) -> bool;
+
+    /// What in its state is not as in the model's, if anything.
+    fn differs(&self, model: Option<&Model>) -> Option<String>;
+}
+
+/// What a device is held against.
+pub trait Reference: Device {
+    /// The state, if there is one.
+    fn model(&self) -> Option<&Model>;
+}
+
+/// The model as a device.
+pub struct Twin {
+    pub params: Params,
+    pub model: Option<Model>,
+}
+
+impl Twin {
+    pub fn new(params: &Params) -> Twin {
+        Twin { params: *params, model: None }
+    }
+}
+
+impl Device for Twin {
+    fn call(&mut self, call: &Call, out: &mut [u8]) -> Answer {
+        if let Call::Load { vault, key } = call {
+            self.model = Some(Model::load(&self.params, vault, key)?);
+            return Ok(Taken { store: None, len: 0 });
+        }
+        // There is a state for every other call.
+        let Some(model) = &mut self.model else { return Err(Refusal { number: 0, value: 0 }) };
+        match call {
+            Call::Load { .. } => Err(Refusal { number: 0, value: 0 }),
+            Call::Accept { transaction, lane, position } => model.accept(transaction, *lane, *position),
+            Call::Seal { .. } => model.seal(out),
+            Call::Commit { record } => model.commit(record),
+            Call::Point { position } => model.point(*position),
+            Call::Checkpoint { .. } => model.checkpoint(out),
+            Call::Truncate { position } => model.truncate(*position),
+            Call::Recover { checkpoint, log, .. } => model.recover(checkpoint, log, out),
+        }
+    }
+
+    fn cut(&mut self) {
+        self.model = None;
+    }
+
+    fn hand(&mut self, raw: &Raw) {
+        self.model = Some(raw.model(&self.params));
+    }
+
+    fn unchanged(&self) -> bool {
+        true
+    }
+
+    fn differs(&self, model: Option<&Model>) -> Option<String> {
+        let (Some(a), Some(b)) = (&self.model, model) else {
+            return (self.model.is_some() != model.is_some()).then(|| "one has no state".to_string());
+        };
+        let same = a.vault == b.vault
+            && a.phase == b.phase
+            && a.due == b.due
+            && a.table == b.table
+            && a.records == b.records
+            && a.last == b.last
+            && a.points == b.points
+            && a.newest == b.newest;
+        (!same).then(|| format!("states differ: {a:?} {b:?}"))
+    }
+}
+
+impl Reference for Twin {
+    fn model(&self) -> Option<&Model> {
+        self.model.as_ref()
+    }
+}

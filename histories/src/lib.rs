@@ -1,0 +1,20 @@
+//! Random whole histories on a device and the model side by side.
+//!
+//! A history is a list of calls, cuts and handed states, drawn from a seed. After every call the two answers, the lent
+//! buffer and the states are compared, and what the scope says about whole histories is asserted: the table after an
+//! accepted Recover is the book's, and a card that kept faith is taken unless a counter is spent.
+
+#[cfg(test)]
+mod broken;
+pub mod device;
+pub mod draw;
+pub mod raw;
+pub mod rng;
+pub mod tally;
+pub mod world;
+
+pub use device::{Answer, Call, Device, Reference, Twin};
+pub use raw::Raw;
+pub use rng::Rng;
+pub use tally::Tally;
+pub use world::run;

@@ -1,0 +1,122 @@
+//! What the histories came upon.
+
+use std::fmt::Write;
+
+use crate::device::{Answer, NUMBERS, OPERATIONS};
+
+/// Counts over all histories.
+#[derive(Clone, Debug, Default)]
+pub struct Tally {
+    pub histories: u64,
+    pub events: u64,
+    pub cuts: u64,
+    pub handed: u64,
+    pub calls: u64,
+    /// By operation.
+    pub taken: [u64; 8],
+    /// By operation and number.
+    pub refused: [[u64; 16]; 8],
+    /// Whole recoveries of 15 and of 24 stores.
+    pub recoveries: [u64; 2],
+    /// Accepted Recover calls whose table was the book's: all, and those where it was not empty.
+    pub book: [u64; 2],
+    /// Recover calls with a card that kept faith that were accepted: all, and those with a table that was not empty.
+    pub faithful: [u64; 2],
+    /// Recover calls with such a card where a counter was spent.
+    pub spent: u64,
+    /// Bytes of the longest log of a card that kept faith.
+    pub longest: usize,
+    /// First Recover calls with what another card handed over: accepted, and refused.
+    pub other_cards: [u64; 2],
+    /// Cuts by the kind of the store that was due, and by whether the store named last was done.
+    pub cut_at: [[u64; 2]; 13],
+}
+
+impl Tally {
+    /// Counts a call.
+    pub fn count(&mut self, operation: usize, answer: &Answer) {
+        self.calls += 1;
+        match answer {
+            Ok(_) => self.taken[operation] += 1,
+            Err(refusal) => self.refused[operation][usize::from(refusal.number & 15)] += 1,
+        }
+    }
+
+    /// What never came up: operations never taken, numbers never returned, halves of the claim never tried.
+    pub fn missing(&self) -> Vec<String> {
+        let mut out = Vec::new();
+        for (i, name) in OPERATIONS.iter().enumerate() {
+            if self.taken[i] == 0 {
+                out.push(format!("{name} was never taken"));
+            }
+            for &number in NUMBERS[i] {
+                if self.refused[i][usize::from(number)] == 0 {
+                    out.push(format!("{name} never returned {number}"));
+                }
+            }
+        }
+        let halves = [
+            (self.book[1], "no accepted Recover had a table with readings to compare with the book's"),
+            (self.faithful[1], "no card that kept faith was recovered with readings"),
+            (self.spent, "no card that kept faith met a spent counter"),
+            (self.other_cards[0], "no other card was taken"),
+            (self.recoveries[0], "no recovery of 15 stores"),
+            (self.recoveries[1], "no recovery of 24 stores"),
+        ];
+        for (kind, cuts) in self.cut_at.iter().enumerate() {
+            for (done, count) in cuts.iter().enumerate() {
+                if *count == 0 {
+                    let done = if done == 1 { "done" } else { "not done" };
+                    out.push(format!("no cut while a store of kind {kind} was due, the one before it {done}"));
+                }
+            }
+        }
+        out.extend(halves.iter().filter(|(count, _)| *count == 0).map(|(_, what)| what.to_string()));
+        out
+    }
+
+    /// The counts as text.
+    pub fn table(&self) -> String {
+        let mut out = String::new();
+        let _ = writeln!(
+            out,
+            "{} histories, {} events: {} calls, {} cuts, {} states handed over",
+            self.histories, self.events, self.calls, self.cuts, self.handed
+        );
+        let _ = write!(out, "{:<11}{:>9}", "", "taken");
+        for number in 1..16 {
+            let _ = write!(out, "{number:>8}");
+        }
+        out.push('\n');
+        for (i, name) in OPERATIONS.iter().enumerate() {
+            let _ = write!(out, "{name:<11}{:>9}", self.taken[i]);
+            for number in 1..16 {
+                let seen = self.refused[i][number];
+                if seen > 0 || NUMBERS[i].contains(&(number as u8)) {
+                    let _ = write!(out, "{seen:>8}");
+                } else {
+                    let _ = write!(out, "{:>8}", "");
+                }
+            }
+            out.push('\n');
+        }
+        let _ = writeln!(
+            out,
+            "recoveries of 15 stores {}, of 24 stores {}; table was the book's {} times, {} with readings",
+            self.recoveries[0], self.recoveries[1], self.book[0], self.book[1]
+        );
+        let _ = writeln!(
+            out,
+            "cards that kept faith: {} accepted, {} with readings, {} with a counter spent; longest log {} bytes",
+            self.faithful[0], self.faithful[1], self.spent, self.longest
+        );
+        let _ = writeln!(
+            out,
+            "other cards: {} accepted, {} refused; cuts at each due store, done or not: at least {}",
+            self.other_cards[0],
+            self.other_cards[1],
+            self.cut_at.iter().flatten().min().unwrap_or(&0)
+        );
+        out
+    }
+}

@@ -1,0 +1,22 @@
+//! The sealed log once more: a model, written from the scope alone, for the tests to hold the library against.
+//!
+//! It shares no code with the library. The cipher is OpenSSL's. Limits and the order of readings are values (`Params`).
+//! Operations change the model only where they are taken.
+
+pub mod card;
+pub mod cipher;
+pub mod model;
+pub mod params;
+pub mod sealed;
+pub mod table;
+pub mod vault;
+
+pub use card::{Book, Card};
+pub use cipher::Cipher;
+pub use model::{Due, Held, Listed, Model, Phase, Point, Refusal, Store, Taken};
+pub use params::{Params, Rank};
+pub use table::{Entry, Table, Transaction, Write};
+pub use vault::Vault;
+
+/// Bytes of a key.
+pub const KEY_LEN: usize = 16;

@@ -1,0 +1,386 @@
+/* What a host can hand over by mistake, through every function of the C boundary: states of random numbers, good states with
+ * one field changed, buffers of length 0 and of wrong lengths, bytes that are no record. A call that is turned down leaves
+ * state and buffer as they were; a call that is taken writes its len bytes and none behind them. Buffers have their exact
+ * length on the heap, so that valgrind sees every byte read or written beside them.
+ *
+ * Argument: how many rounds. */
+#include <stdio.h>
+#include <stdlib.h>
+#include <string.h>
+
+#include "paviluko.h"
+
+static uint64_t calls, refused;
+
+/* ---- random numbers: splitmix64 ---- */
+
+static uint64_t seed = 1;
+
+static uint64_t any(void)
+{
+    uint64_t z = seed += UINT64_C(0x9e3779b97f4a7c15);
+    z = (z ^ (z >> 30)) * UINT64_C(0xbf58476d1ce4e5b9);
+    z = (z ^ (z >> 27)) * UINT64_C(0x94d049bb133111eb);
+    return z ^ (z >> 31);
+}
+
+static uint64_t below(uint64_t end)
+{
+    return any() % end;
+}
+
+/* A number that is small, or near the maximum, or any. */
+static uint64_t number(void)
+{
+    switch (below(4)) {
+    case 0: return any();
+    case 1: return PAVILUKO_COUNTER_MAX - 2 + below(5);
+    default: return below(20);
+    }
+}
+
+static void fill(void *to, size_t len)
+{
+    uint8_t *bytes = to;
+    for (size_t i = 0; i < len; i++) {
+        bytes[i] = (uint8_t)any();
+    }
+}
+
+/* A buffer of its exact length, of random bytes. */
+static uint8_t *lend(size_t len)
+{
+    uint8_t *bytes = malloc(len);
+    if (!bytes && len) {
+        abort();
+    }
+    fill(bytes, len);
+    return bytes;
+}
+
+/* A length that something may be wrong with. */
+static size_t some_len(void)
+{
+    static const size_t lens[] = {0, 1, 7, 8, 9, 15, 16, 17, 19, 20, 21, 36, 39, 40, 55, 56, 57, 63, 64, 135, 136, 137, 144,
+                                  175, 176, 177, 6143, 6183, 6184, 6185};
+    return below(4) ? lens[below(sizeof lens / sizeof lens[0])] : below(300);
+}
+
+/* ---- states ---- */
+
+static int same_vault(const paviluko_vault *a, const paviluko_vault *b)
+{
+    return !memcmp(a, b, sizeof *a);
+}
+
+/* Field by field: what stands between the fields is nobody's. */
+static int same_state(const paviluko_state *a, const paviluko_state *b)
+{
+    if (!same_vault(&a->vault, &b->vault) || a->due.position != b->due.position || a->due.kind != b->due.kind ||
+        a->due.lane != b->due.lane || a->due.second != b->due.second) {
+        return 0;
+    }
+    for (int i = 0; i < PAVILUKO_METERS; i++) {
+        const paviluko_entry *x = &a->table.entries[i], *y = &b->table.entries[i];
+        if (x->stamp != y->stamp || x->number != y->number || x->reading != y->reading || x->code != y->code ||
+            x->lane != y->lane || x->present != y->present) {
+            return 0;
+        }
+    }
+    if (memcmp(a->journal.positions, b->journal.positions, sizeof a->journal.positions) ||
+        memcmp(a->journal.lanes, b->journal.lanes, sizeof a->journal.lanes) || a->journal.count != b->journal.count ||
+        a->journal.used != b->journal.used || a->journal.last != b->journal.last) {
+        return 0;
+    }
+    for (int i = 0; i < PAVILUKO_POINTS; i++) {
+        const paviluko_mark *x = &a->points.items[i], *y = &b->points.items[i];
+        if (x->position != y->position || memcmp(x->counts, y->counts, sizeof x->counts) || x->covered != y->covered) {
+            return 0;
+        }
+    }
+    return a->points.count == b->points.count && a->points.any == b->points.any && a->points.newest == b->points.newest &&
+           !memcmp(a->held.text, b->held.text, sizeof a->held.text) && a->held.len == b->held.len &&
+           a->held.lane == b->held.lane && a->held.position == b->held.position && !memcmp(a->key, b->key, sizeof a->key) &&
+           a->phase == b->phase;
+}
+
+/* Random bytes, but for the flags. */
+static void random_state(paviluko_state *s)
+{
+    fill(s, sizeof *s);
+    for (int i = 0; i < PAVILUKO_METERS; i++) {
+        s->table.entries[i].present &= 1;
+    }
+    for (int i = 0; i < PAVILUKO_POINTS; i++) {
+        s->points.items[i].covered &= 1;
+    }
+    s->journal.used &= 1;
+    s->points.any &= 1;
+}
+
+/* One field changed. */
+static void change(paviluko_state *s)
+{
+    int lane = (int)below(PAVILUKO_LANES), point = (int)below(PAVILUKO_POINTS);
+    switch (below(16)) {
+    case 0: s->phase = (uint8_t)(below(2) ? below(4) : any()); break;
+    case 1: s->due.kind = (uint8_t)(below(4) ? below(14) : any()); break;
+    case 2: s->due.lane = (uint8_t)number(); break;
+    case 3: s->due.second = (uint8_t)below(3); break;
+    case 4: s->due.position = number(); break;
+    case 5: s->journal.count = below(2) ? PAVILUKO_LISTED - 1 + below(3) : number(); break;
+    case 6: s->points.count = below(2) ? PAVILUKO_POINTS - 1 + below(3) : number(); break;
+    case 7: s->held.len = below(2) ? below(200) : number(); break;
+    case 8: s->held.lane = (uint8_t)number(); break;
+    case 9: fill(s->journal.lanes, sizeof s->journal.lanes); break;
+    case 10: fill(s->journal.positions, sizeof s->journal.positions); break;
+    case 11: s->vault.w[lane] = number(); break;
+    case 12: s->vault.v[lane] = number(); break;
+    case 13: s->vault.r[lane] = number(); break;
+    case 14: s->vault.e = s->vault.s = s->vault.n = PAVILUKO_COUNTER_MAX - below(3); break;
+    default: fill(s->points.items[point].counts, sizeof s->points.items[point].counts); break;
+    }
+}
+
+/* ---- calls ---- */
+
+static void wrong(const char *name, const char *what, const paviluko_said *said)
+{
+    fprintf(stderr, "%s: %s (number %u, value %llu, store %u, len %llu)\n", name, what, said->number,
+            (unsigned long long)said->value, said->store, (unsigned long long)said->len);
+    exit(1);
+}
+
+/* Looks at an answer; 0 for a number means any. */
+static void look(const char *name, const paviluko_state *s, const paviluko_reply *r, const uint8_t *out, const uint8_t *was,
+                 size_t room, unsigned wanted)
+{
+    const paviluko_said *said = &r->said;
+    calls++;
+    if (wanted && said->number != wanted) {
+        wrong(name, "another answer was wanted", said);
+    }
+    if (said->number > PAVILUKO_UNSEEN || said->store > PAVILUKO_STORE_EMPTY) {
+        wrong(name, "no such answer", said);
+    }
+    if (said->number) {
+        refused++;
+        if (said->store || said->lane || said->len) {
+            wrong(name, "turned down, and yet names something", said);
+        }
+        if (s && !same_state(s, &r->state)) {
+            wrong(name, "turned down, and the state has changed", said);
+        }
+    }
+    if (said->len > room || (room && memcmp(out + said->len, was + said->len, room - said->len))) {
+        wrong(name, "bytes written that are not the answer's", said);
+    }
+}
+
+/* A copy of a buffer. */
+static uint8_t *copy(const uint8_t *bytes, size_t len)
+{
+    uint8_t *to = malloc(len);
+    if (len) {
+        memcpy(to, bytes, len);
+    }
+    return to;
+}
+
+/* Record bytes, good ones or not: some length of random bytes; the record, damaged; a legal head and too little behind it. */
+static uint8_t *some_record(const uint8_t *record, size_t record_len, size_t *len)
+{
+    uint8_t *bytes;
+    switch (below(4)) {
+    case 0:
+        *len = some_len();
+        return lend(*len);
+    case 1:
+        *len = below(record_len + 1);
+        return copy(record, *len);
+    case 2:
+        *len = record_len;
+        bytes = copy(record, *len);
+        bytes[below(*len)] ^= (uint8_t)(1 << below(8));
+        return bytes;
+    default:
+        *len = some_len();
+        bytes = lend(*len);
+        if (*len >= 4) {
+            bytes[0] = 1;
+            bytes[1] = (uint8_t)below(8);
+            bytes[2] = (uint8_t)(16 + 8 * below(16));
+            bytes[3] = (uint8_t)(below(2) ? 0 : any());
+        }
+        return bytes;
+    }
+}
+
+/* Every function on a state, with arguments of all sorts. */
+static void every(const paviluko_state *s, const uint8_t *record, size_t record_len, unsigned wanted)
+{
+    static const uint8_t plain[16] = {100, 0, 0, 0, 0, 0, 0, 0, 3, 0, 1, 0, 7, 0, 0, 0};
+    paviluko_reply r;
+    size_t len = some_len(), room = some_len();
+    uint8_t *in = below(2) ? lend(len) : copy(plain, len = sizeof plain);
+    uint8_t *out = lend(room), *was = copy(out, room);
+
+    r = paviluko_accept(*s, in, len, (uint8_t)(below(4) ? below(9) : any()), number());
+    look("accept", s, &r, out, was, 0, wanted);
+    r = paviluko_seal(*s, out, room);
+    look("seal", s, &r, out, was, room, wanted);
+    memcpy(out, was, room);
+    free(in);
+    in = some_record(record, record_len, &len);
+    r = paviluko_commit(*s, in, len);
+    look("commit", s, &r, out, was, 0, wanted);
+    r = paviluko_point(*s, number());
+    look("point", s, &r, out, was, 0, wanted);
+    r = paviluko_checkpoint(*s, out, room);
+    look("checkpoint", s, &r, out, was, room, wanted);
+    memcpy(out, was, room);
+    r = paviluko_truncate(*s, below(2) ? s->due.position : number());
+    look("truncate", s, &r, out, was, 0, wanted);
+    size_t file_len = some_len();
+    uint8_t *file = lend(file_len);
+    r = paviluko_recover(*s, file, below(2) ? file_len : 0, in, len, out, room);
+    look("recover", s, &r, out, was, room, wanted);
+
+    /* A state's fields, whatever the state. */
+    uint8_t meter = (uint8_t)any();
+    paviluko_entry entry = paviluko_reading(*s, meter);
+    paviluko_vault numbers = paviluko_numbers(*s);
+    paviluko_due due = paviluko_due_store(*s);
+    calls += 6;
+    if (entry.stamp != s->table.entries[meter].stamp || !same_vault(&numbers, &s->vault) || due.kind != s->due.kind ||
+        paviluko_phase(*s) != s->phase || paviluko_records(*s) != s->journal.count ||
+        paviluko_points_kept(*s) != s->points.count) {
+        fprintf(stderr, "a field is not what stands in the state\n");
+        exit(1);
+    }
+    free(file);
+    free(out);
+    free(was);
+    free(in);
+}
+
+/* Loads: numbers of all sorts, keys of all lengths; what a refused one hands back turns every call down. */
+static void loads(const uint8_t *record, size_t record_len)
+{
+    static uint8_t none;
+    paviluko_vault x;
+    size_t len = below(3) ? 16 : below(33);
+    uint8_t *key = lend(len);
+    fill(&x, sizeof x);
+    if (below(2)) {
+        memset(&x, 0, sizeof x);
+        x.v[below(8)] = below(2);
+    }
+    paviluko_reply r = paviluko_load(x, key, len);
+    look("load", NULL, &r, &none, &none, 0, 0);
+    every(&r.state, record, record_len, r.said.number ? PAVILUKO_CONDITION : 0);
+    free(key);
+}
+
+/* NULL for a buffer of length 0, through the functions that take a pointer to the state: the answer is that of an empty
+ * buffer. */
+static void nulls(const paviluko_state *s, const paviluko_vault *x)
+{
+    uint8_t one = 0;
+    paviluko_state t;
+    paviluko_said said[6];
+    const paviluko_reply wanted[6] = {
+        paviluko_load(*x, &one, 0),      paviluko_accept(*s, &one, 0, 0, 99),
+        paviluko_seal(*s, &one, 0),      paviluko_commit(*s, &one, 0),
+        paviluko_checkpoint(*s, &one, 0), paviluko_recover(*s, &one, 0, &one, 0, &one, 0),
+    };
+    for (int i = 0; i < 6; i++) {
+        t = *s;
+        switch (i) {
+        case 0: said[i] = paviluko_do_load(&t, x, NULL, 0); break;
+        case 1: said[i] = paviluko_do_accept(&t, NULL, 0, 0, 99); break;
+        case 2: said[i] = paviluko_do_seal(&t, NULL, 0); break;
+        case 3: said[i] = paviluko_do_commit(&t, NULL, 0); break;
+        case 4: said[i] = paviluko_do_checkpoint(&t, NULL, 0); break;
+        default: said[i] = paviluko_do_recover(&t, NULL, 0, NULL, 0, NULL, 0); break;
+        }
+        /* A refused load leaves the state. */
+        if (said[i].number != wanted[i].said.number || said[i].value != wanted[i].said.value ||
+            !same_state(&t, i == 0 ? s : &wanted[i].state)) {
+            wrong("NULL", "not the answer of an empty buffer", &said[i]);
+        }
+        calls += 2;
+    }
+}
+
+int main(int argc, char **argv)
+{
+    long rounds = argc > 1 ? atol(argv[1]) : 200;
+    static uint8_t out[PAVILUKO_CHECKPOINT_LEN];
+    static const uint8_t key[16] = "sixteen of bytes";
+    static const uint8_t transaction[16] = {100, 0, 0, 0, 0, 0, 0, 0, 3, 0, 1, 0, 7, 0, 0, 0};
+    paviluko_vault x;
+    memset(&x, 0, sizeof x);
+
+    /* Good states: cold, recovering, in service, a record due, a file due, a truncation under way. */
+    paviluko_state good[64];
+    size_t states = 0;
+    good[states++] = paviluko_load(x, key, 16).state;
+    while (good[states - 1].phase != PAVILUKO_IN_SERVICE) {
+        good[states] = paviluko_recover(good[states - 1], out, 0, out, 0, out, sizeof out).state;
+        states++;
+    }
+    good[states] = paviluko_accept(good[states - 1], transaction, 16, 5, 10).state;
+    states++;
+    paviluko_reply sealed = paviluko_seal(good[states - 1], out, sizeof out);
+    size_t record_len = sealed.said.len;
+    uint8_t *record = copy(out, record_len);
+    good[states++] = sealed.state;
+    good[states] = paviluko_commit(good[states - 1], record, record_len).state;
+    states++;
+    good[states] = paviluko_point(good[states - 1], 11).state;
+    states++;
+    for (int i = 0; i < 3; i++, states++) {
+        good[states] = paviluko_checkpoint(good[states - 1], out, sizeof out).state;
+    }
+    for (int i = 0; i < 9; i++, states++) {
+        good[states] = paviluko_truncate(good[states - 1], 11).state;
+    }
+    if (record_len != 56 || good[states - 1].vault.r[5] != 1 || good[states - 1].due.kind != PAVILUKO_DUE_NOTHING) {
+        fprintf(stderr, "the good states did not come to their end\n");
+        return 1;
+    }
+
+    for (size_t i = 0; i < states; i++) {
+        nulls(&good[i], &x);
+    }
+    for (long round = 0; round < rounds; round++) {
+        paviluko_state s;
+        random_state(&s);
+        every(&s, record, record_len, PAVILUKO_CONDITION);
+        loads(record, record_len);
+        every(&good[below(states)], record, record_len, 0);
+        for (int i = 0; i < 3; i++) {
+            s = good[below(states)];
+            for (uint64_t changes = below(3); changes < 3; changes++) {
+                change(&s);
+            }
+            every(&s, record, record_len, 0);
+        }
+    }
+
+    /* A log that is too long is not read: only its length is looked at. */
+    uint8_t one = 0;
+    paviluko_reply r = paviluko_recover(good[0], &one, 0, &one, PAVILUKO_LOG_MAX + 1, &one, 1);
+    look("recover", &good[0], &r, &one, &one, 1, PAVILUKO_LENGTH);
+    /* A whole log of zeros. */
+    uint8_t *zeros = calloc(PAVILUKO_LOG_MAX, 1);
+    r = paviluko_recover(good[0], &one, 0, zeros, PAVILUKO_LOG_MAX, &one, 1);
+    look("recover", &good[0], &r, &one, &one, 1, PAVILUKO_CLOSED);
+    free(zeros);
+    free(record);
+
+    printf("bad input: %llu calls, %llu of them turned down, nothing else touched\n", (unsigned long long)calls,
+           (unsigned long long)refused);
+    return 0;
+}

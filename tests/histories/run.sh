@@ -1,0 +1,44 @@
+#!/bin/sh
+# Holds the library against a model written from the scope alone: the bench sheet's cases, Rust's declarations of the C
+# boundary, and random whole histories with fixed seeds. A line each.
+# Run from the repository's top; the library is built before. PAVILUKO_LIB may name another folder with its archive.
+set -eu
+
+library=${PAVILUKO_LIB:-target/staticlib}/libpaviluko.a
+sheet=crates/bench_sheet/stdout
+rust=target-rust/release
+
+[ -f "$library" ] || { echo "$library is missing: build it first" >&2; exit 1; }
+PAVILUKO_LIB=$(cd "$(dirname "$library")" && pwd)
+export PAVILUKO_LIB
+sh tests/cipher/packages.sh gcc libc6-dev libssl-dev
+
+log=$(mktemp)
+trap 'rm -f "$log"' EXIT
+
+# Runs a command, whose output is shown only where it fails.
+quietly() {
+    "$@" >"$log" 2>&1 || { cat "$log" >&2; exit 1; }
+}
+
+quietly cargo build --release --offline --locked --quiet
+
+"$rust/sheet" >"$log"
+if ! diff "$log" "$sheet" >&2; then
+    echo "the model's answers to the bench sheet are not the library's" >&2
+    exit 1
+fi
+echo "bench sheet: $(wc -l <"$sheet") lines, the model's and the library's the same"
+
+quietly cargo test --release --offline --locked --quiet -p paviluko_model
+quietly cargo test --release --offline --locked --quiet -p paviluko_host --test agreement
+echo "C boundary: Rust's declarations agree with the library"
+
+quietly cargo test --release --offline --locked --quiet -p paviluko_host --test bits
+echo "C boundary: no bit of a record or a checkpoint can be turned over"
+
+quietly cargo test --release --offline --locked --quiet -p paviluko_histories --lib
+echo "histories: each of 15 faults put into a model is caught"
+
+quietly "$rust/histories" --histories 2000 --events 400 --seed 1
+echo "histories: $(head -n 1 "$log"); library and model the same"
