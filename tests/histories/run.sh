@@ -40,5 +40,5 @@ echo "C boundary: no bit of a record or a checkpoint can be turned over"
 quietly cargo test --release --offline --locked --quiet -p paviluko_histories --lib
 echo "histories: each of 15 faults put into a model is caught"
 
-quietly "$rust/histories" --histories 2000 --events 400 --seed 1
+quietly "$rust/histories" --histories 2400 --events 400 --seed 1
 echo "histories: $(head -n 1 "$log"); library and model the same"

@@ -2,6 +2,8 @@
 
 use std::rc::Rc;
 
+use paviluko_model::cipher::s_box;
+use paviluko_model::sealed::record_nonce;
 use paviluko_model::{Cipher, Listed, Model, Params, Phase, Point, Refusal, Store, Taken, Transaction, Vault, Write};
 
 /// A call's answer.
@@ -532,6 +534,17 @@ fn m1() {
     line("M1 17 writes", accept(&mut fresh(), 17, 0, 10));
 }
 
+fn m2() {
+    for byte in [0x00, 0x53] {
+        println!("M2 {byte:02x} gives: {:02x}", s_box(byte));
+    }
+}
+
+fn m3() {
+    let bytes = record_nonce(3, 258).map(|byte| byte.to_string());
+    println!("M3 nonce of lane 3, number 258: {}", bytes.join(" "));
+}
+
 /// The record behind number w of lane 0, for each of them.
 fn log(behind: &[u64]) -> Vec<u8> {
     behind.iter().flat_map(|&w| next(&lane0(w, 0, 0), 0)).collect()
@@ -584,6 +597,8 @@ fn main() {
     truncate_cases();
     recover_cases();
     m1();
+    m2();
+    m3();
     m4_to_m9();
     m10();
     m11();
