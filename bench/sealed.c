@@ -6,8 +6,9 @@
    the boundary as its text, so a checkpoint's times hold reading that text
    before sealing, and writing it after opening.  The fifth row enters the
    transactions of a full log into a table; the cipher's time beside it is that
-   of opening them.  The last three run the collector: transactions, each
-   accepted, sealed and committed, beside sealing and opening each; checkpoints
+   of opening them.  The last four run the collector: transactions, each
+   accepted, sealed and committed, beside sealing and opening each, under a key
+   that is prepared once, and then, as Seal and Commit have to, each time; checkpoints
    in their three calls, beside sealing a file; the call of Recover that reads a
    checkpoint and a full log, beside opening the file and the records. */
 
@@ -123,8 +124,12 @@ static int each(int (*work)(void), int times)
 
 static int bare_transaction(void) { return bare_seal_record() && bare_open_record(); }
 
+static int prepare(void) { return cipher_prepare(key_bytes, KEY, key.schedule, key.multiples) == CIPHER_DONE; }
+static int transaction_from_key(void) { return prepare() && bare_seal_record() && prepare() && bare_open_record(); }
+
 static int bare_open_log(void) { return each(bare_open_record, LOG); }
 static int bare_transact(void) { return each(bare_transaction, LISTED); }
+static int transact_from_key(void) { return each(transaction_from_key, LISTED); }
 static int bare_checkpoints(void) { return each(bare_seal_file, FILES); }
 static int bare_recover(void) { return bare_open_file() && bare_open_log(); }
 
@@ -139,6 +144,7 @@ static struct row {
     { "open a checkpoint", { open_file, bare_open_file }, { 0, 0 } },
     { "enter a full log, beside opening it", { enter_log, bare_open_log }, { 0, 0 } },
     { "128 transactions", { transact, bare_transact }, { 0, 0 } },
+    { "the same, from a bare key", { transact, transact_from_key }, { 0, 0 } },
     { "8 checkpoints", { checkpoints, bare_checkpoints }, { 0, 0 } },
     { "recover, a full log", { recover, bare_recover }, { 0, 0 } },
 };
@@ -151,7 +157,7 @@ enum { ROWS = sizeof rows / sizeof rows[0] };
 static void make_work(void)
 {
     fill(key_bytes, KEY);
-    check(cipher_prepare(key_bytes, KEY, key.schedule, key.multiples) == CIPHER_DONE, "preparing a key");
+    check(prepare(), "preparing a key");
     fill(text, TEXT);
     for (int i = 0; i < WRITES; i++) {
         uint8_t *w = text + 8 + 8 * i;
