@@ -280,6 +280,11 @@ fn no_transaction(rng: &mut Rng, params: &Params) -> Vec<u8> {
         2 => bytes.truncate(bytes.len() - 1 - rng.index(7)),
         3 => bytes.push(0),
         4 => bytes = transaction_of(rng, params, params.writes + 1),
+        5 if rng.permille(500) => {
+            // The first meter that there is not.
+            let last = bytes.len() - 8;
+            bytes[last..last + 2].copy_from_slice(&(params.meters as u16).to_le_bytes());
+        }
         5 => bytes[at + 1] = 1 + rng.below(255) as u8,
         6 => bytes[at + 2] = if rng.permille(500) { 0 } else { 5 + rng.below(251) as u8 },
         7 => bytes[at + 3] = 1 + rng.below(255) as u8,
@@ -670,7 +675,7 @@ fn forged_record(host: &mut Host, model: &Model) -> Rc<[u8]> {
             let mut head = sealed::record_head(lane, text.len(), epoch, number);
             match rng.below(4) {
                 0 => head[0] = *rng.pick(&[0, 2, 3, 255]).unwrap_or(&0),
-                1 => head[1] = 8 + rng.below(248) as u8,
+                1 => head[1] = *rng.pick(&[8, 8, 9, 255]).unwrap_or(&8),
                 2 => head[2] ^= 1 << rng.below(8),
                 _ => head[3] ^= 1 << rng.below(8),
             }
