@@ -28,7 +28,8 @@ pub const LOG_MAX: usize = 262144;
 // recovers with a store due that is not recovery's, and a number that cannot be set (1), a log that is too long or an
 // output with no room for the file (3), a spent counter (8), and what does not read (9 to 13).
 //
-// The state is handed to no step as a whole, and each answer is built in place: it is then never copied.
+// The steps take the parts of the state that they look at, and an answer that names a store is built in place: passing
+// the state is copying it.
 pub fn recover(c: State, checkpoint: &[u8], log: &[u8], out: &mut [u8]) -> Answer
     ensures answer { λ r. ⌜ shownAs r (recover c (now (checkpoint .entry)) (now (log .entry)) (length (now (out .entry))) .put) ≡ recover c (now (checkpoint .entry)) (now (log .entry)) (length (now (out .entry))) ⌝ }
     ensures bytes { λ r. ⌜ now (out .exit) ≡ putOver (recover c (now (checkpoint .entry)) (now (log .entry)) (length (now (out .entry))) .put) (now (out .entry)) ⌝ }
@@ -99,7 +100,24 @@ pub fn recover(c: State, checkpoint: &[u8], log: &[u8], out: &mut [u8]) -> Answe
                     let version = s + 1;
                     let seal = x.n;
                     filing::put_table(key, version, seal, t, out);
-                    handed::stored(c, x, Due::RecoverVersion { second }, Store::File, FILE_LEN)
+                    let journal = c.journal;
+                    let points = c.points;
+                    let held = c.held;
+                    let state = State {
+                        vault: x,
+                        phase,
+                        due: Due::RecoverVersion { second },
+                        table: t,
+                        journal,
+                        points,
+                        held,
+                        key,
+                    };
+                    let outcome = Outcome::Taken {
+                        store: Store::File,
+                        len: FILE_LEN,
+                    };
+                    Answer { state, outcome }
                 }
                 Part::Empty => {
                     let table = c.table;

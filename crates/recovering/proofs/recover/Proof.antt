@@ -69,13 +69,13 @@ returns-8 c =
 
 returns-9 : tie.Need-returns-9
 returns-9 c =
-    let g = c .before .before .before .before .before .before .before .before .before .before .before .before .before .before .before .before .before .before .before .before .before .args in
-    let p = c .before .before .before .before .before .before .before .before .before .before .before .before .part-of in
+    let g = c .before .before .before .before .before .before .before .before .before .before .before .before .before .before .before .before .before .before .before .before .before .before .before .args in
+    let p = c .before .before .before .before .before .before .before .before .before .before .before .before .before .before .part-of in
     -- what is known of the table among the parts of the state
-    let k = c .before .before .before .before .before .before .before .before .before .before .before .before .before .before .before .before .before .before .before .before .before .good .0 .1 .1 .1 .1 .1 .0 in
+    let k = c .before .before .before .before .before .before .before .before .before .before .before .before .before .before .before .before .before .before .before .before .before .before .before .good .0 .1 .1 .1 .1 .1 .0 in
     let n : length (g .c .table .entries) ≡ 256 = search (length-of-map, k) in
-    on-valid (g .c) (g .checkpoint .now) (g .log .now) (g .out .now) _ (c .before .before .before .before .before .before .before .before .before .before .before .before .before .before .enum-told3 .given .1) (c .before .before .before .before .before .before .before .before .before .before .before .before .before .before .before .before .valid .ensures) (c .before .before .before .before .before .before .before .before .before .before .before .before .before .if4 .left) _
-    (on-file (g .c) (g .out .now) (p .result) (p .ensures) _ (c .before .before .before .before .before .before .before .before .before .before .part .given .1) _ (c .stored .ensures) (file-taken (g .c) _ (g .out .now) (c .before .before .before .before .before .before .before .before .if5 .left) (c .before .before .before .before .before .before .before .if6 .left) n _ _ refl (c .before .before .before .put-table .ensures .1)))
+    on-valid (g .c) (g .checkpoint .now) (g .log .now) (g .out .now) _ (c .before .before .before .before .before .before .before .before .before .before .before .before .before .before .before .before .enum-told3 .given .1) (c .before .before .before .before .before .before .before .before .before .before .before .before .before .before .before .before .before .before .valid .ensures) (c .before .before .before .before .before .before .before .before .before .before .before .before .before .before .before .if4 .left) _
+    (on-file (g .c) (g .out .now) (p .result) (p .ensures) _ (c .before .before .before .before .before .before .before .before .before .before .before .before .part .given .1) _ refl (file-taken (g .c) _ (g .out .now) (c .before .before .before .before .before .before .before .before .before .before .if5 .left) (c .before .before .before .before .before .before .before .before .before .if6 .left) n _ _ refl (c .before .before .before .before .before .put-table .ensures .1)))
 
 returns-10 : tie.Need-returns-10
 returns-10 c =
@@ -127,7 +127,6 @@ recover-spec =
     (λ c κs. search needs)
     returns-6
     (λ c. search needs)
-    (λ c κs. search needs)
     (λ c κs. search needs)
     (λ c. search needs)
     (λ c κs. search needs)
