@@ -2,18 +2,20 @@
 -- Assumes nothing.
 use Prim.Native.Nat.{ℕ, suc, _+_, _≤_, _<_}
 use mathlib.Core.Path.{_≡_, refl, sym, ap, subst, _∙_}
-use mathlib.Core.Bool.{Bool, true, false, not}
+use mathlib.Core.Bool.{Bool, true, false, cond, not}
 use mathlib.Core.List.{List, []}
 use native.Mathlib.Numerals.{add-one}
 use native.Mathlib.Omega.{arith}
 use borrow.Author.Tests.{not-true, not-false, le-leb, lt-leb, lt-ltb, le-ltb}
+use lib.Dec.{leb}
 use lib.ListN.{length}
 use Rattle.octets.specs.Lists.{at}
+use Rattle.table.specs.Table.{lanes}
 use Rattle.gcm.specs.Answers.{putOver}
-use Rattle.protocol.specs.Vaults.{counterMax, setV, setR, setE}
-use Rattle.protocol.specs.States.{noJournal, noPoints, valid, withVault}
+use Rattle.protocol.specs.Vaults.{counterMax, setV, setR, setE, setS, setN}
+use Rattle.protocol.specs.States.{noJournal, noPoints, valid}
 use Rattle.protocol.specs.Said.{Answered, refuse, refusing, numberOf, valuesOf, shown, shownAs}
-use Rattle.protocol.specs.Recover.{allVisible, afterR, afterV, inService, recoverFirst, recoverDue, recoverPhase, recover}
+use Rattle.protocol.specs.Recover.{afterVersion, allVisible, afterR, afterV, inService, recoverFirst, recoverDue, recoverPhase, recover}
 use Rattle.protocol.specs.declared.Vault.{Vault}
 use Rattle.protocol.specs.declared.State.{State}
 use Rattle.protocol.specs.declared.Answer.{Answer}
@@ -26,6 +28,11 @@ use Rattle.protocol.specs.declared.Due.the-variants as D
 use Rattle.protocol.specs.declared.Store.the-variants as S
 use Rattle.protocol.specs.declared.Refusal.the-variants as R
 use Rattle.handed.specs.Parts.{validBy, refusedWith, takenWith}
+use Rattle.filing.specs.Steps.{fileStep}
+use Rattle.recovering.specs.declared.go_on.Part.{Part}
+use Rattle.recovering.specs.declared.go_on.Part.the-variants as P
+use Rattle.recovering.specs.declared.go_on.Step.{Step}
+use Rattle.recovering.specs.Parts.{partOf, stands, goes, stepFor, stepped, numberCall, emptyCall, callOf}
 
 -- ---- the next store
 
@@ -59,42 +66,97 @@ last-v lane h =
     let e : 8 ≤ suc lane = omega arith in
     rw (le-ltb (suc lane) 8 e)
 
--- ---- the steps
+-- ---- the step of a vault number
 
-module _ (c : State) where
+-- old is the due store that a refusal leaves
+module _ (x : Vault) (old : Due) where
+  -- the store that is due is told
+  pub step-told : {due : Due} → old ≡ due → {s : Step} → s ≡ stepFor x old due → s ≡ stepFor x old old
+  step-told h e = e ∙ ap (stepFor x old) (sym h)
+
+  -- the same where the refusal leaves it as it was told
+  pub step-left : {due : Due} → old ≡ due → {s : Step} → s ≡ stepFor x due due → s ≡ stepFor x old old
+  step-left h e = e ∙ ap (λ (d : Due). stepFor x d d) (sym h)
+
+  module _ (second : Bool) where
+    pub version-spent : counterMax ≤ x .s → stands x old ≡ stepFor x old (D.RecoverVersion second)
+    unfolding stepFor
+    version-spent h = rw (le-leb counterMax (x .s) h)
+
+    pub version-goes : x .s < counterMax → (y : Vault) (d : Due) → y ≡ setS x (x .s + 1) → d ≡ afterVersion second → goes y d (S.S (x .s + 1)) ≡ stepFor x old (D.RecoverVersion second)
+    unfolding stepFor
+    version-goes h y d ey ed = rw (lt-leb counterMax (x .s) h, ey, ed, add-one (x .s))
+
+  pub seal-spent : counterMax ≤ x .n → stands x old ≡ stepFor x old D.RecoverSeal
+  unfolding stepFor
+  seal-spent h = rw (le-leb counterMax (x .n) h)
+
+  pub seal-goes : x .n < counterMax → (y : Vault) → y ≡ setN x (x .n + 1) → goes y (D.RecoverFile true) (S.N (x .n + 1)) ≡ stepFor x old D.RecoverSeal
+  unfolding stepFor
+  seal-goes h y ey = rw (lt-leb counterMax (x .n) h, ey, add-one (x .n))
+
+  pub epoch-spent : counterMax ≤ x .e → stands x old ≡ stepFor x old D.RecoverEpoch
+  unfolding stepFor
+  epoch-spent h = rw (le-leb counterMax (x .e) h)
+
+  pub epoch-goes : x .e < counterMax → (y : Vault) → y ≡ setE x (x .e + 1) → goes y (D.RecoverV 0) (S.E (x .e + 1)) ≡ stepFor x old D.RecoverEpoch
+  unfolding stepFor
+  epoch-goes h y ey = rw (lt-leb counterMax (x .e) h, ey, add-one (x .e))
+
   module _ (lane : ℕ) where
-    pub r-above : 8 ≤ lane → shownAs (refusedWith c R.Condition) [] ≡ recoverDue c 0 (D.RecoverR lane)
-    unfolding recoverDue refuse shownAs shown numberOf valuesOf
+    pub r-above : 8 ≤ lane → stands x old ≡ stepFor x old (D.RecoverR lane)
+    unfolding stepFor
     r-above h = rw (le-leb 8 lane h)
 
-    pub r-taken : lane < 8 → (k : ℕ) (x : Vault) (d : Due) (s : State) → k ≡ at (c .vault .w) lane → x ≡ setR (c .vault) lane k → d ≡ afterR (c .vault) lane
-        → s ≡ withVault c x d → shownAs (takenWith s (S.R lane k) 0) [] ≡ recoverDue c 0 (D.RecoverR lane)
-    unfolding recoverDue refuse shownAs shown
-    r-taken h k x d s ek ex ed es = rw (lt-leb 8 lane h, es, ex, ed, ek)
+    pub r-goes : lane < 8 → (k : ℕ) (y : Vault) (d : Due) → k ≡ at (x .w) lane → y ≡ setR x lane k → d ≡ afterR x lane → goes y d (S.R lane k) ≡ stepFor x old (D.RecoverR lane)
+    unfolding stepFor
+    r-goes h k y d ek ey ed = rw (lt-leb 8 lane h, ey, ed, ek)
 
-    pub v-above : 8 ≤ lane → shownAs (refusedWith c R.Condition) [] ≡ recoverDue c 0 (D.RecoverV lane)
-    unfolding recoverDue refuse shownAs shown numberOf valuesOf
+    pub v-above : 8 ≤ lane → stands x old ≡ stepFor x old (D.RecoverV lane)
+    unfolding stepFor
     v-above h = rw (le-leb 8 lane h)
 
-    pub v-taken : lane < 8 → (k : ℕ) (x : Vault) (d : Due) (s : State) → k ≡ at (c .vault .w) lane → x ≡ setV (c .vault) lane k → d ≡ afterV lane
-        → s ≡ withVault c x d → shownAs (takenWith s (S.V lane k) 0) [] ≡ recoverDue c 0 (D.RecoverV lane)
-    unfolding recoverDue refuse shownAs shown
-    v-taken h k x d s ek ex ed es = rw (lt-leb 8 lane h, es, ex, ed, ek)
+    pub v-goes : lane < 8 → (k : ℕ) (y : Vault) (d : Due) → k ≡ at (x .w) lane → y ≡ setV x lane k → d ≡ afterV lane → goes y d (S.V lane k) ≡ stepFor x old (D.RecoverV lane)
+    unfolding stepFor
+    v-goes h k y d ek ey ed = rw (lt-leb 8 lane h, ey, ed, ek)
 
-  pub epoch-spent : counterMax ≤ c .vault .e → shownAs (refusedWith c R.Condition) [] ≡ recoverDue c 0 D.RecoverEpoch
-  unfolding recoverDue refuse shownAs shown numberOf valuesOf
-  epoch-spent h = rw (le-leb counterMax (c .vault .e) h)
+-- ---- the emptying
 
-  pub epoch-taken : c .vault .e < counterMax → (x : Vault) (s : State) → x ≡ setE (c .vault) (c .vault .e + 1) → s ≡ withVault c x (D.RecoverV 0)
-      → shownAs (takenWith s (S.E (c .vault .e + 1)) 0) [] ≡ recoverDue c 0 D.RecoverEpoch
-  unfolding recoverDue refuse shownAs shown
-  epoch-taken h x s ex es = rw (lt-leb counterMax (c .vault .e) h, es, ex, add-one (c .vault .e))
-
+module _ (c : State) where
   pub emptied : (j : Journal) (p : Points) → j ≡ noJournal → p ≡ noPoints
       → shownAs (takenWith (record { vault = c .vault; phase = F.Serving; due = D.Nothing; table = c .table; journal = j; points = p; held = c .held; key = c .key }) S.Empty 0) []
-      ≡ recoverDue c 0 D.RecoverEmpty
-  unfolding recoverDue inService shownAs shown
+      ≡ emptyCall c
+  unfolding emptyCall inService shownAs shown
   emptied j p ej ep = rw (ej, ep)
+
+-- ---- the call by its kind
+
+module _ (c : State) where
+  -- a step that is turned down leaves the state as it came
+  stood : stepped c (stands (c .vault) (c .due)) ≡ refusing c 1 []
+  unfolding stepped shownAs shown numberOf valuesOf
+  stood = refl
+
+  step-or : (b : Bool) (s : Step) → stepped c (cond b (stands (c .vault) (c .due)) s) ≡ refuse b c 1 [] (stepped c s)
+  unfolding refuse
+  step-or true s = stood
+  step-or false s = refl
+
+  by-part : (room : ℕ) (due : Due) → callOf c room due (partOf due) ≡ recoverDue c room due
+  unfolding callOf numberCall emptyCall stepFor stepped shownAs shown fileStep recoverDue
+  by-part room (D.RecoverFile second) = refl
+  by-part room (D.RecoverVersion second) = step-or (leb counterMax (c .vault .s)) _
+  by-part room D.RecoverSeal = step-or (leb counterMax (c .vault .n)) _
+  by-part room (D.RecoverR lane) = step-or (leb lanes lane) _
+  by-part room D.RecoverEpoch = step-or (leb counterMax (c .vault .e)) _
+  by-part room (D.RecoverV lane) = step-or (leb lanes lane) _
+  by-part room D.RecoverEmpty = refl
+  by-part room D.Nothing = stood
+  by-part room D.Record = stood
+  by-part room D.File = stood
+  by-part room D.Version = stood
+  by-part room (D.TruncateR l p) = stood
+  by-part room (D.TruncateDelete p) = stood
 
 -- ---- a whole call, over a buffer that holds o before it and e behind it
 
@@ -106,19 +168,22 @@ pub still : (o : List ℕ) (r : Answer) (s : Answered) → shownAs r [] ≡ s �
 unfolding shownAs
 still o r s h = subst (Met o o r) h (refl, refl)
 
--- the store that is due is told
-pub told : (o e : List ℕ) (r : Answer) (c : State) {due : Due} → c .due ≡ due → Met o e r (recoverDue c (length o) due) → Met o e r (recoverDue c (length o) (c .due))
-told o e r c h = subst (λ (d : Due). Met o e r (recoverDue c (length o) d)) (sym h)
+module _ (c : State) (o : List ℕ) (part : Part) (ep : part ≡ partOf (c .due)) (r : Answer) where
+  part-call : {kind : Part} → part ≡ kind → callOf c (length o) (c .due) kind ≡ recoverDue c (length o) (c .due)
+  part-call k = ap (callOf c (length o) (c .due)) (sym k ∙ ep) ∙ by-part c (length o) (c .due)
 
--- a step that put nothing out
-pub on-still : (o : List ℕ) (r : Answer) (c : State) {due : Due} → c .due ≡ due → shownAs r [] ≡ recoverDue c (length o) due → Met o o r (recoverDue c (length o) (c .due))
-on-still o r c h e = told o o r c h (still o r (recoverDue c (length o) _) e)
+  pub on-number : part ≡ P.Number → shownAs r [] ≡ numberCall c (c .due) → Met o o r (recoverDue c (length o) (c .due))
+  unfolding callOf
+  on-number k s = still o r (recoverDue c (length o) (c .due)) (s ∙ part-call k)
 
--- a store that is not recovery's
-pub on-other : (o : List ℕ) (r : Answer) (c : State) {due : Due} → c .due ≡ due → r ≡ refusedWith c R.Condition → recoverDue c (length o) due ≡ refusing c 1 []
-    → Met o o r (recoverDue c (length o) (c .due))
-unfolding shownAs shown numberOf valuesOf
-on-other o r c h er e = on-still o r c h (ap (λ (y : Answer). shownAs y []) er ∙ sym e)
+  pub on-empty : part ≡ P.Empty → shownAs r [] ≡ emptyCall c → Met o o r (recoverDue c (length o) (c .due))
+  unfolding callOf
+  on-empty k s = still o r (recoverDue c (length o) (c .due)) (s ∙ part-call k)
+
+  -- e is the buffer behind it
+  pub on-file : {second : Bool} → part ≡ P.File second → (e : List ℕ) {a : Answer} → r ≡ a → Met o e a (fileStep c (length o) (D.RecoverVersion second)) → Met o e r (recoverDue c (length o) (c .due))
+  unfolding callOf
+  on-file k e {a} er m = subst (λ (y : Answer). Met o e y (recoverDue c (length o) (c .due))) (sym er) (subst (Met o e a) (part-call k) m)
 
 -- ---- by phase
 

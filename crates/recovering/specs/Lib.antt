@@ -1,2 +1,3 @@
--- From: what the first call of Recover reads, over the parts of a state.
+-- From: what the first call of Recover reads, over the parts of a state. Parts: the calls that go on.
 pub mod From
+pub mod Parts

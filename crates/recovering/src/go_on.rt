@@ -1,22 +1,52 @@
-// The calls of Recover that go on with a recovery that was accepted (01, Operations): "N, checkpoint S + 1, S; the same
+// The steps of Recover that go on with a recovery that was accepted (01, Operations): "N, checkpoint S + 1, S; the same
 // three again; R = W for lanes 0 to 7; if any W ≠ V, also E + 1 and V = W for lanes 0 to 7; empty the log." Each names the
 // store that is due and tells the next.
 ghost use mathlib.Core.Path.{_≡_};
-ghost use mathlib.Core.List.{[]};
-ghost use lib.ListN.{length};
-ghost use Rattle.gcm.specs.Answers.{putOver};
-ghost use Rattle.protocol.specs.Said.{shownAs};
-ghost use Rattle.protocol.specs.Recover.{afterVersion, allVisible, afterR, afterV, recoverDue};
-ghost use Rattle.protocol.specs.declared.Due.the-variants as D;
-use protocol::Answer;
+ghost use Rattle.protocol.specs.Recover.{afterVersion, allVisible, afterR, afterV};
+ghost use Rattle.recovering.specs.Parts.{partOf, stands, goes, stepFor};
 use protocol::Due;
-use protocol::Phase;
+use protocol::Outcome;
 use protocol::Refusal;
-use protocol::State;
 use protocol::Store;
 use protocol::Vault;
 use table::LANES;
 use vault::COUNTER_MAX;
+
+// The kinds of a call that goes on: the one that puts a file out, the one that empties the log, and the one that sets a
+// vault number, or is turned down.
+pub enum Part {
+    File { second: bool },
+    Empty,
+    Number,
+}
+
+// What the step of a vault number comes to: the vault numbers and the due store behind it, and what is answered.
+pub struct Step {
+    pub vault: Vault,
+    pub due: Due,
+    pub outcome: Outcome,
+}
+
+// The call that goes on while this store is due.
+pub fn part_of(due: Due) -> Part
+    ensures { λ r. ⌜ r ≡ partOf due ⌝ }
+{
+    match due {
+        Due::Nothing => Part::Number,
+        Due::Record => Part::Number,
+        Due::File => Part::Number,
+        Due::Version => Part::Number,
+        Due::TruncateR { lane, position } => Part::Number,
+        Due::TruncateDelete { position } => Part::Number,
+        Due::RecoverFile { second } => Part::File { second },
+        Due::RecoverVersion { second } => Part::Number,
+        Due::RecoverSeal => Part::Number,
+        Due::RecoverR { lane } => Part::Number,
+        Due::RecoverEpoch => Part::Number,
+        Due::RecoverV { lane } => Part::Number,
+        Due::RecoverEmpty => Part::Empty,
+    }
+}
 
 // Behind S: N of the second checkpoint, and behind that one's S the first R.
 fn after_version(second: bool) -> Due
@@ -68,94 +98,93 @@ fn after_v(lane: u8) -> Due
     Due::RecoverEmpty
 }
 
-// Names R = W of a lane. It refuses a lane above 7 (1).
-fn r_step(c: State, lane: u8) -> Answer
-    ensures { λ r. ⌜ shownAs r [] ≡ recoverDue c 0 (D.RecoverR lane) ⌝ }
+// A store that is turned down: the vault numbers and the due store as they came (1).
+fn stands(x: Vault, due: Due) -> Step
+    ensures { λ r. ⌜ r ≡ stands x due ⌝ }
 {
-    if LANES <= lane {
-        return handed::refused(c, Refusal::Condition);
+    Step {
+        vault: x,
+        due,
+        outcome: Outcome::Refused {
+            why: Refusal::Condition,
+        },
     }
-    let x = c.vault;
-    let value = vault::w_at(x, lane);
-    let raised = vault::set_r(x, lane, value);
-    let next = after_r(x, lane);
-    handed::stored(c, raised, next, Store::R { lane, value }, 0)
 }
 
-// Names E + 1. It refuses an E at the maximum (1).
-fn epoch_step(c: State) -> Answer
-    ensures { λ r. ⌜ shownAs r [] ≡ recoverDue c 0 D.RecoverEpoch ⌝ }
+// A store that is named: the vault numbers with it done, and the store that is due next.
+fn goes(x: Vault, due: Due, store: Store) -> Step
+    ensures { λ r. ⌜ r ≡ goes x due store ⌝ }
 {
-    let x = c.vault;
-    let e = x.e;
-    if COUNTER_MAX <= e {
-        return handed::refused(c, Refusal::Condition);
+    Step {
+        vault: x,
+        due,
+        outcome: Outcome::Taken { store, len: 0 },
     }
-    let value = e + 1;
-    let raised = vault::set_e(x, value);
-    handed::stored(c, raised, Due::RecoverV { lane: 0 }, Store::E { value }, 0)
 }
 
-// Names V = W of a lane. It refuses a lane above 7 (1).
-fn v_step(c: State, lane: u8) -> Answer
-    ensures { λ r. ⌜ shownAs r [] ≡ recoverDue c 0 (D.RecoverV lane) ⌝ }
+// The step of a vault number: S + 1, N + 1, R = W of a lane, E + 1, V = W of a lane. It refuses an S, N or E at the
+// maximum, a lane above 7, and a due store that is none of these (1).
+pub fn number_step(x: Vault, due: Due) -> Step
+    ensures { λ r. ⌜ r ≡ stepFor x due due ⌝ }
 {
-    if LANES <= lane {
-        return handed::refused(c, Refusal::Condition);
-    }
-    let x = c.vault;
-    let value = vault::w_at(x, lane);
-    let raised = vault::set_v(x, lane, value);
-    let next = after_v(lane);
-    handed::stored(c, raised, next, Store::V { lane, value }, 0)
-}
-
-// Names the emptying of the log; the collector is then in service, with no point and no position used.
-fn empty_step(c: State) -> Answer
-    ensures { λ r. ⌜ shownAs r [] ≡ recoverDue c 0 D.RecoverEmpty ⌝ }
-{
-    let vault = c.vault;
-    let table = c.table;
-    let journal = journal::no_journal();
-    let points = journal::no_points();
-    let held = c.held;
-    let key = c.key;
-    let state = State {
-        vault,
-        phase: Phase::Serving,
-        due: Due::Nothing,
-        table,
-        journal,
-        points,
-        held,
-        key,
-    };
-    handed::taken(state, Store::Empty, 0)
-}
-
-// Goes on with the store that is due. It refuses a store that is not recovery's, and what its step refuses; only the file
-// is put out.
-pub fn go_on(c: State, out: &mut [u8]) -> Answer
-    ensures answer { λ r. ⌜ shownAs r (recoverDue c (length (now (out .entry))) (c .due) .put) ≡ recoverDue c (length (now (out .entry))) (c .due) ⌝ }
-    ensures bytes { λ r. ⌜ now (out .exit) ≡ putOver (recoverDue c (length (now (out .entry))) (c .due) .put) (now (out .entry)) ⌝ }
-{
-    let due = c.due;
     match due {
-        Due::Nothing => handed::refused(c, Refusal::Condition),
-        Due::Record => handed::refused(c, Refusal::Condition),
-        Due::File => handed::refused(c, Refusal::Condition),
-        Due::Version => handed::refused(c, Refusal::Condition),
-        Due::TruncateR { lane, position } => handed::refused(c, Refusal::Condition),
-        Due::TruncateDelete { position } => handed::refused(c, Refusal::Condition),
-        Due::RecoverFile { second } => filing::file_step(c, Due::RecoverVersion { second }, out),
+        Due::Nothing => stands(x, due),
+        Due::Record => stands(x, due),
+        Due::File => stands(x, due),
+        Due::Version => stands(x, due),
+        Due::TruncateR { lane, position } => stands(x, due),
+        Due::TruncateDelete { position } => stands(x, due),
+        Due::RecoverFile { second } => stands(x, due),
         Due::RecoverVersion { second } => {
+            let s = x.s;
+            if COUNTER_MAX <= s {
+                return stands(x, due);
+            }
+            let value = s + 1;
+            let raised = vault::set_s(x, value);
             let next = after_version(second);
-            filing::version_step(c, next)
+            goes(raised, next, Store::S { value })
         }
-        Due::RecoverSeal => filing::seal_step(c, Due::RecoverFile { second: true }),
-        Due::RecoverR { lane } => r_step(c, lane),
-        Due::RecoverEpoch => epoch_step(c),
-        Due::RecoverV { lane } => v_step(c, lane),
-        Due::RecoverEmpty => empty_step(c),
+        Due::RecoverSeal => {
+            let n = x.n;
+            if COUNTER_MAX <= n {
+                return stands(x, due);
+            }
+            let value = n + 1;
+            let raised = vault::set_n(x, value);
+            goes(
+                raised,
+                Due::RecoverFile { second: true },
+                Store::N { value },
+            )
+        }
+        Due::RecoverR { lane } => {
+            if LANES <= lane {
+                return stands(x, due);
+            }
+            let value = vault::w_at(x, lane);
+            let raised = vault::set_r(x, lane, value);
+            let next = after_r(x, lane);
+            goes(raised, next, Store::R { lane, value })
+        }
+        Due::RecoverEpoch => {
+            let e = x.e;
+            if COUNTER_MAX <= e {
+                return stands(x, due);
+            }
+            let value = e + 1;
+            let raised = vault::set_e(x, value);
+            goes(raised, Due::RecoverV { lane: 0 }, Store::E { value })
+        }
+        Due::RecoverV { lane } => {
+            if LANES <= lane {
+                return stands(x, due);
+            }
+            let value = vault::w_at(x, lane);
+            let raised = vault::set_v(x, lane, value);
+            let next = after_v(lane);
+            goes(raised, next, Store::V { lane, value })
+        }
+        Due::RecoverEmpty => stands(x, due),
     }
 }

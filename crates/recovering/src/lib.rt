@@ -5,10 +5,17 @@ ghost use lib.ListN.{length};
 ghost use Rattle.gcm.specs.Answers.{putOver};
 ghost use Rattle.protocol.specs.Said.{shownAs};
 ghost use Rattle.protocol.specs.Recover.{recover};
+use go_on::Part;
 use protocol::Answer;
+use protocol::Due;
+use protocol::Outcome;
 use protocol::Phase;
 use protocol::Refusal;
 use protocol::State;
+use protocol::Store;
+use replay::LogEnd;
+use sealed::file::FILE_LEN;
+use vault::COUNTER_MAX;
 
 pub mod go_on;
 pub mod start;
@@ -16,22 +23,147 @@ pub mod start;
 // The most bytes of a log.
 pub const LOG_MAX: usize = 262144;
 
-// Recover: the first call of a cold collector looks at the checkpoint and the log; the later ones look at neither. It
-// refuses a collector in service and a state that breaks its rule (1), and what the call's own step refuses.
+// Recover: the first call of a cold collector looks at the checkpoint and the log, and names the first N; the later ones
+// look at neither. It refuses a state that breaks its rule, a collector in service, a cold one with a store due, one that
+// recovers with a store due that is not recovery's, and a number that cannot be set (1), a log that is too long or an
+// output with no room for the file (3), a spent counter (8), and what does not read (9 to 13).
+//
+// The steps take the parts of the state that they look at, and an answer that names a store is built in place: passing
+// the state is copying it.
 pub fn recover(c: State, checkpoint: &[u8], log: &[u8], out: &mut [u8]) -> Answer
     ensures answer { λ r. ⌜ shownAs r (recover c (now (checkpoint .entry)) (now (log .entry)) (length (now (out .entry))) .put) ≡ recover c (now (checkpoint .entry)) (now (log .entry)) (length (now (out .entry))) ⌝ }
     ensures bytes { λ r. ⌜ now (out .exit) ≡ putOver (recover c (now (checkpoint .entry)) (now (log .entry)) (length (now (out .entry))) .put) (now (out .entry)) ⌝ }
 {
+    let x = c.vault;
     let phase = c.phase;
+    let due = c.due;
+    let fine = handed::valid(x, c.journal.count, c.points.count);
     match phase {
-        Phase::Cold => start::first(c, checkpoint, log),
+        Phase::Cold => {
+            let free = handed::is_nothing(due);
+            if !(fine & free) {
+                return handed::refused(c, Refusal::Condition);
+            }
+            if LOG_MAX < log.len() {
+                return handed::refused(c, Refusal::Length { right: LOG_MAX });
+            }
+            if start::spent(x) {
+                return handed::refused(c, Refusal::Spent);
+            }
+            let key = c.key;
+            let got = start::read(key, x, checkpoint, log);
+            let end = got.end;
+            match end {
+                LogEnd::Read => {
+                    let table = got.table;
+                    let n = x.n;
+                    let value = n + 1;
+                    let raised = vault::set_n(x, value);
+                    let journal = c.journal;
+                    let points = c.points;
+                    let held = c.held;
+                    let state = State {
+                        vault: raised,
+                        phase: Phase::Recovering,
+                        due: Due::RecoverFile { second: false },
+                        table,
+                        journal,
+                        points,
+                        held,
+                        key,
+                    };
+                    let outcome = Outcome::Taken {
+                        store: Store::N { value },
+                        len: 0,
+                    };
+                    Answer { state, outcome }
+                }
+                LogEnd::Stopped { why } => handed::refused(c, why),
+            }
+        }
         Phase::Recovering => {
-            let x = c.vault;
-            let fine = handed::valid(x, c.journal.count, c.points.count);
             if !fine {
                 return handed::refused(c, Refusal::Condition);
             }
-            go_on::go_on(c, out)
+            let part = go_on::part_of(due);
+            match part {
+                Part::File { second } => {
+                    let s = x.s;
+                    if COUNTER_MAX <= s {
+                        return handed::refused(c, Refusal::Condition);
+                    }
+                    if out.len() < FILE_LEN {
+                        return handed::refused(c, Refusal::Length { right: FILE_LEN });
+                    }
+                    let key = c.key;
+                    let t = c.table;
+                    let version = s + 1;
+                    let seal = x.n;
+                    filing::put_table(key, version, seal, t, out);
+                    let journal = c.journal;
+                    let points = c.points;
+                    let held = c.held;
+                    let state = State {
+                        vault: x,
+                        phase,
+                        due: Due::RecoverVersion { second },
+                        table: t,
+                        journal,
+                        points,
+                        held,
+                        key,
+                    };
+                    let outcome = Outcome::Taken {
+                        store: Store::File,
+                        len: FILE_LEN,
+                    };
+                    Answer { state, outcome }
+                }
+                Part::Empty => {
+                    let table = c.table;
+                    let journal = journal::no_journal();
+                    let points = journal::no_points();
+                    let held = c.held;
+                    let key = c.key;
+                    let state = State {
+                        vault: x,
+                        phase: Phase::Serving,
+                        due: Due::Nothing,
+                        table,
+                        journal,
+                        points,
+                        held,
+                        key,
+                    };
+                    let outcome = Outcome::Taken {
+                        store: Store::Empty,
+                        len: 0,
+                    };
+                    Answer { state, outcome }
+                }
+                Part::Number => {
+                    let step = go_on::number_step(x, due);
+                    let vault = step.vault;
+                    let next = step.due;
+                    let outcome = step.outcome;
+                    let table = c.table;
+                    let journal = c.journal;
+                    let points = c.points;
+                    let held = c.held;
+                    let key = c.key;
+                    let state = State {
+                        vault,
+                        phase,
+                        due: next,
+                        table,
+                        journal,
+                        points,
+                        held,
+                        key,
+                    };
+                    Answer { state, outcome }
+                }
+            }
         }
         Phase::Serving => handed::refused(c, Refusal::Condition),
     }

@@ -1,22 +1,15 @@
-// The first call of Recover (01, Operations), which accepts a recovery or turns it down: the checkpoint and the log are
-// read where they lie, with the key prepared once.
+// What the first call of Recover (01, Operations) reads: the checkpoint and the log are read where they lie, with the key
+// prepared once.
 ghost use mathlib.Core.Path.{_≡_};
-ghost use mathlib.Core.List.{[]};
 ghost use Rattle.aes.specs.Cipher.{cipher};
 ghost use Rattle.ghash.specs.Multiples.{productBy};
 ghost use Rattle.sealed.specs.Aead.{aesGcm, gcmBy};
-ghost use Rattle.protocol.specs.Said.{numberOf, valuesOf, shownAs};
+ghost use Rattle.protocol.specs.Said.{numberOf, valuesOf};
 ghost use Rattle.protocol.specs.Replay.{stopped};
-ghost use Rattle.protocol.specs.Recover.{spent, recoverFirst};
+ghost use Rattle.protocol.specs.Recover.{spent};
 ghost use Rattle.replay.specs.Rules.{readOf};
 ghost use Rattle.recovering.specs.From.{readFrom};
-use super::LOG_MAX;
-use protocol::Answer;
-use protocol::Due;
-use protocol::Phase;
 use protocol::Refusal;
-use protocol::State;
-use protocol::Store;
 use protocol::Vault;
 use replay::LogEnd;
 use replay::LogRead;
@@ -80,56 +73,10 @@ fn read_under<'a>(
 }
 
 // Reads the checkpoint and the log under a key.
-fn read(key: [u8; 16], x: Vault, checkpoint: &[u8], log: &[u8]) -> LogRead
+pub fn read(key: [u8; 16], x: Vault, checkpoint: &[u8], log: &[u8]) -> LogRead
     ensures { λ r. ⌜ readOf r ≡ readFrom (aesGcm key) x (now (checkpoint .entry)) (now (log .entry)) ⌝ }
 {
     let mut multiples = [0u64; gcm::MULTIPLES_LEN];
     let schedule = gcm::prepare_in(key, &mut multiples);
     read_under(&schedule, &multiples, x, checkpoint, log)
-}
-
-// The first call: a checkpoint and a log; it names the first N. It refuses a state that breaks its rule or with a store
-// due (1), a log that is too long (3), a spent counter (8), and what does not read (9 to 13).
-pub fn first(c: State, checkpoint: &[u8], log: &[u8]) -> Answer
-    ensures { λ r. ⌜ shownAs r [] ≡ recoverFirst c (now (checkpoint .entry)) (now (log .entry)) ⌝ }
-{
-    let x = c.vault;
-    let due = c.due;
-    let fine = handed::valid(x, c.journal.count, c.points.count);
-    let free = handed::is_nothing(due);
-    if !(fine & free) {
-        return handed::refused(c, Refusal::Condition);
-    }
-    if LOG_MAX < log.len() {
-        return handed::refused(c, Refusal::Length { right: LOG_MAX });
-    }
-    if spent(x) {
-        return handed::refused(c, Refusal::Spent);
-    }
-    let key = c.key;
-    let got = read(key, x, checkpoint, log);
-    let end = got.end;
-    match end {
-        LogEnd::Read => {
-            let table = got.table;
-            let n = x.n;
-            let value = n + 1;
-            let raised = vault::set_n(x, value);
-            let journal = c.journal;
-            let points = c.points;
-            let held = c.held;
-            let state = State {
-                vault: raised,
-                phase: Phase::Recovering,
-                due: Due::RecoverFile { second: false },
-                table,
-                journal,
-                points,
-                held,
-                key,
-            };
-            handed::taken(state, Store::N { value }, 0)
-        }
-        LogEnd::Stopped { why } => handed::refused(c, why),
-    }
 }
