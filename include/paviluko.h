@@ -31,8 +31,8 @@
  * crates/paviluko/src/lib.rt for the promises and docs/ARCHITECTURE.md for the theorem about whole histories.
  *
  * MEMORY AND THREADS. There is no heap, no global and no hidden state: the functions are re-entrant, and no pointer outlives
- * its call. State and reply are some 8 KB each and are passed by value, so a call needs stack. Measured, with the copies that
- * the caller makes: accept and load 33 KB, truncate 43, point 52, seal 73, commit 79, checkpoint 99, recover 138, the
+ * its call. State and reply are some 8 KB each and are passed by value, so a call needs stack. Measured (bench/stack.c), state
+ * and reply among it: accept 31 KB, load 32, truncate 42, commit and point 50, seal 54, checkpoint 78, recover 101, the
  * questions at the end 23. PAVILUKO_STACK leaves room beyond the deepest of them. The paviluko_do_ functions at the end of
  * this file take a pointer to the state instead, and write the next state back.
  *
@@ -72,7 +72,7 @@ extern "C" {
 /* The longest log that recover reads. */
 #define PAVILUKO_LOG_MAX 262144
 /* Stack to keep free for a call. */
-#define PAVILUKO_STACK 163840
+#define PAVILUKO_STACK 131072
 
 /* paviluko_state.phase */
 enum { PAVILUKO_COLD = 0, PAVILUKO_RECOVERING = 1, PAVILUKO_IN_SERVICE = 2 };

@@ -1,5 +1,5 @@
-// The three steps of a checkpoint (01, Operations): N, the file, S. Checkpoint makes them once, Recover twice; each is
-// told which store is due behind it.
+// The three steps of a checkpoint (01, Operations): N, the file, S, each told which store is due behind it. Recover, which
+// makes two, seals its files here too.
 ghost use mathlib.Core.Path.{_≡_};
 ghost use mathlib.Core.List.{[]};
 ghost use lib.ListN.{length};
