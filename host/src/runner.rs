@@ -93,9 +93,9 @@ pub struct Started {
     pub records: usize,
 }
 
-/// A transaction that was made visible.
+/// A transaction that was given its number.
 #[derive(Clone, Copy, Debug, PartialEq, Eq)]
-pub struct Visible {
+pub struct Numbered {
     /// Its lane.
     pub lane: u8,
     /// Its number in the lane.
@@ -147,16 +147,29 @@ impl Runner {
         Ok(Started { stores, records })
     }
 
-    /// Accept, Seal and Commit: takes a transaction on a lane and makes it visible. Commit gets the record's bytes as
-    /// the card has them.
-    pub fn take(&mut self, lane: u8, transaction: &[u8]) -> Result<Visible, Stop> {
+    /// Accept, Seal and Commit: takes a transaction on a lane and makes it visible.
+    pub fn take(&mut self, lane: u8, transaction: &[u8]) -> Result<Numbered, Stop> {
+        let accepted = self.accept(lane, transaction)?;
+        self.commit(accepted.position)?;
+        Ok(accepted)
+    }
+
+    /// Accept and Seal: the first half of taking a transaction, up to its record on the card.
+    pub fn accept(&mut self, lane: u8, transaction: &[u8]) -> Result<Numbered, Stop> {
         let position = self.next_position();
         self.call(|collector, _| collector.accept(transaction, lane, position))?;
         self.call(|collector, out| collector.seal(out))?;
+        let number = self.numbers().w.get(usize::from(lane)).copied().unwrap_or_default();
+        Ok(Numbered { lane, number, position })
+    }
+
+    /// Commit: the second half. The library gets the record's bytes as the card has them.
+    pub fn commit(&mut self, position: u64) -> Result<(), Stop> {
+        if self.collector.is_none() {
+            return Err(Stop::Off);
+        }
         let record = self.card.read_record(position)?;
-        self.call(|collector, _| collector.commit(&record))?;
-        let number = self.numbers().v.get(usize::from(lane)).copied().unwrap_or_default();
-        Ok(Visible { lane, number, position })
+        self.call(|collector, _| collector.commit(&record))
     }
 
     /// Point: sets a point, behind all records if no position is given. Where it stands.

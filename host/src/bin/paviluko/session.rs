@@ -20,6 +20,8 @@ take LANE STAMP METER=CODE:READING ..   takes a transaction of 1 to 16 readings 
                                         3 heat, 4 cooling (kWh)
 take --csv FILE [--tidy]                takes the lines lane,stamp,meter,code,reading of a file; with --tidy, sets a
                                         point, makes a checkpoint and truncates whenever 128 records are held
+accept LANE STAMP METER=CODE:READING .. the first half of take: the record is on the card, and not visible yet
+commit POSITION                         the second half: makes the record at a position of the card visible
 table [--csv]                           the latest reading of every meter
 point [POSITION]                        sets a point, behind all records
 checkpoint                              seals the table into a checkpoint on the card
@@ -32,6 +34,9 @@ cut                                     pulls the plug now
 cut before N, cut after N               pulls it before or after the Nth store from here
 help, quit
 ";
+
+/// Where the explanations begin in a line of the help.
+const COLUMN: usize = 40;
 
 /// A CSV file is read so far.
 const LONGEST_FILE: u64 = 64 << 20;
@@ -114,7 +119,9 @@ impl Session {
             ("start", []) => self.start(),
             ("take", ["--csv", file]) => self.take_file(Path::new(file), false),
             ("take", ["--csv", file, "--tidy"] | ["--tidy", "--csv", file]) => self.take_file(Path::new(file), true),
-            ("take", [lane, stamp, writes @ ..]) if !writes.is_empty() => self.take(lane, stamp, writes),
+            ("take", [lane, stamp, writes @ ..]) if !writes.is_empty() => self.take(lane, stamp, writes, true),
+            ("accept", [lane, stamp, writes @ ..]) if !writes.is_empty() => self.take(lane, stamp, writes, false),
+            ("commit", [at]) => self.commit(at),
             ("table", []) => self.table(screen::table),
             ("table", ["--csv"]) => self.table(screen::table_csv),
             ("point", at @ ([] | [_])) => self.point(at.first().copied()),
@@ -145,7 +152,8 @@ impl Session {
         )))
     }
 
-    fn take(&mut self, lane: &str, stamp: &str, writes: &[&str]) -> Result<Answer, Stop> {
+    /// Takes a transaction, or accepts it only.
+    fn take(&mut self, lane: &str, stamp: &str, writes: &[&str], commit: bool) -> Result<Answer, Stop> {
         let Some(lane) = transaction::lane(lane) else { return Ok(Answer::wrong("the lane as a number, 0 to 7")) };
         let Some(stamp) = seconds(stamp) else { return Ok(Answer::wrong("the stamp in seconds, or now")) };
         let mut list = Vec::new();
@@ -157,10 +165,21 @@ impl Session {
                 }
             }
         }
-        let visible = self.runner.take(lane, &transaction::bytes(stamp, &list))?;
-        let (number, position) = (visible.number, visible.position);
+        let bytes = transaction::bytes(stamp, &list);
+        let (done, numbered) = if commit {
+            ("visible", self.runner.take(lane, &bytes)?)
+        } else {
+            ("accepted, not visible", self.runner.accept(lane, &bytes)?)
+        };
+        let (number, position) = (numbered.number, numbered.position);
         let readings = screen::count(list.len(), "reading");
-        Ok(Answer::fine(format!("visible: lane {lane}, number {number}, {readings}, record at position {position}")))
+        Ok(Answer::fine(format!("{done}: lane {lane}, number {number}, {readings}, record at position {position}")))
+    }
+
+    fn commit(&mut self, at: &str) -> Result<Answer, Stop> {
+        let Ok(at) = at.parse() else { return Ok(Answer::wrong("the position as a number")) };
+        self.runner.commit(at)?;
+        Ok(Answer::fine(format!("visible: the record at position {at}")))
     }
 
     fn take_file(&mut self, path: &Path, tidy: bool) -> Result<Answer, Stop> {
@@ -267,7 +286,7 @@ impl Session {
 /// A command that is none, or is not written as it should be.
 fn wrong(name: &str) -> Answer {
     let same = |line: &&str| line.split_whitespace().next().is_some_and(|first| first.trim_end_matches(',') == name);
-    let ways: Vec<&str> = HELP.lines().filter(same).map(|line| line.split("  ").next().unwrap_or(line)).collect();
+    let ways: Vec<&str> = HELP.lines().filter(same).map(|line| line.get(..COLUMN).unwrap_or(line).trim_end()).collect();
     if ways.is_empty() {
         return Answer::failed(format!("unknown command: {}; help lists them", clean(name)));
     }
