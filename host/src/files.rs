@@ -77,10 +77,12 @@ pub fn clean(text: &str) -> String {
 /// An error of the system, without its code.
 fn plain(error: &io::Error) -> String {
     match error.kind() {
-        io::ErrorKind::NotFound => "not found".to_string(),
+        io::ErrorKind::NotFound | io::ErrorKind::NotADirectory => "not found".to_string(),
+        io::ErrorKind::AlreadyExists => "is there already".to_string(),
         io::ErrorKind::PermissionDenied => "no permission".to_string(),
         io::ErrorKind::StorageFull => "no room left".to_string(),
-        _ => error.to_string(),
+        io::ErrorKind::IsADirectory => "is a folder".to_string(),
+        _ => error.to_string().split(" (os error").next().unwrap_or_default().to_lowercase(),
     }
 }
 

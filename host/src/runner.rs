@@ -74,10 +74,10 @@ impl fmt::Display for Stop {
             Stop::Off => write!(to, "the box has no power: start it first"),
             Stop::Refused(refusal) => write!(to, "refused: {refusal}"),
             Stop::Cut { moment, store } => {
-                write!(to, "power cut {moment} the store of {store}: the state is lost; go on with start")
+                write!(to, "power cut {moment} the store ({store}): the state is lost; go on with start")
             }
             Stop::Store { store, fault } => {
-                write!(to, "failed: the store of {store} ({fault}). The box has stopped; mend this, then start")
+                write!(to, "failed: the store ({store}) was not done: {fault}. The box has stopped; mend this, then start")
             }
             Stop::Failed(fault) => write!(to, "failed: {fault}"),
         }

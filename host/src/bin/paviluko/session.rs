@@ -147,7 +147,7 @@ impl Session {
         let records = screen::count(started.records, "record");
         let meters = screen::count(meters, "meter");
         Ok(Answer::fine(format!(
-            "in service after {} stores; {records} on the card, {meters} in the table",
+            "in service after {} stores; {records} read from the card, {meters} in the table",
             started.stores
         )))
     }
