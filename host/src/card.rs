@@ -28,6 +28,9 @@ const CHECKPOINTS: &str = "checkpoints";
 /// What a folder of records is called, before its generation.
 const RECORDS: &str = "records.";
 
+/// Bytes of a checkpoint's head.
+const HEAD_LEN: usize = 20;
+
 /// A card in a folder.
 #[derive(Debug)]
 pub struct Card {
@@ -131,20 +134,23 @@ impl Card {
             return Ok(Vec::new());
         }
         let folder = self.folder.join(CHECKPOINTS);
-        let mut best: Option<((bool, u64, u64), Vec<u8>)> = None;
+        let mut best: Option<((bool, u64, u64), PathBuf)> = None;
         for name in names(&folder)? {
             let path = folder.join(&name);
             if name.starts_with('.') || !path.is_file() {
                 continue;
             }
-            let bytes = files::read_at_most(&path, FILE_LEN + 1)?;
-            let (its, seal) = head(&bytes).unwrap_or_default();
+            let (its, seal) = head(&files::read_at_most(&path, HEAD_LEN)?).unwrap_or_default();
             let rank = (its == version, its, seal);
             if best.as_ref().is_none_or(|(other, _)| rank > *other) {
-                best = Some((rank, bytes));
+                best = Some((rank, path));
             }
         }
-        Ok(best.map(|(_, bytes)| bytes).unwrap_or_default())
+        match best {
+            // A byte more than a checkpoint has: what is longer is read as too long.
+            Some((_, path)) => files::read_at_most(&path, FILE_LEN + 1),
+            None => Ok(Vec::new()),
+        }
     }
 
     /// How many records and checkpoints it holds.

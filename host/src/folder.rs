@@ -48,6 +48,9 @@ impl BoxFolder {
         // The vault is looked for first: a folder that has none is no box, and stays as it is.
         VaultFile::open(folder, disk)?;
         let path = folder.join(LOCK);
+        if fs::metadata(&path).is_ok_and(|there| !there.is_file()) {
+            return Err(Fault::damaged(&path, "is not a file"));
+        }
         let lock = OpenOptions::new().write(true).create(true).truncate(false).open(&path);
         let lock = lock.map_err(Fault::unusable(&path))?;
         match lock.try_lock() {

@@ -77,7 +77,10 @@ impl fmt::Display for Stop {
                 write!(to, "power cut {moment} the store ({store}): the state is lost; go on with start")
             }
             Stop::Store { store, fault } => {
-                write!(to, "failed: the store ({store}) was not done: {fault}. The box has stopped; mend this, then start")
+                write!(
+                    to,
+                    "failed: the store ({store}) was not done: {fault}. The box has stopped; mend this, then start"
+                )
             }
             Stop::Failed(fault) => write!(to, "failed: {fault}"),
         }
@@ -110,7 +113,6 @@ pub struct Runner {
     folder: BoxFolder,
     key: [u8; KEY_LEN],
     vault: VaultFile,
-    card: Card,
     /// The state; none without power.
     collector: Option<Collector>,
     plug: Plug,
@@ -121,12 +123,12 @@ pub struct Runner {
 }
 
 impl Runner {
-    /// The box of a folder, without power.
+    /// The box of a folder, without power, and with or without a card.
     pub fn open(folder: &Path, disk: Disk) -> Result<Runner, Fault> {
         let folder = BoxFolder::open(folder, disk)?;
-        let (key, vault, card) = (folder.key()?, folder.vault()?, folder.card()?);
+        let (key, vault) = (folder.key()?, folder.vault()?);
         let out = vec![0; FILE_LEN];
-        Ok(Runner { folder, key, vault, card, collector: None, plug: Plug::default(), stores: 0, out })
+        Ok(Runner { folder, key, vault, collector: None, plug: Plug::default(), stores: 0, out })
     }
 
     /// Load and Recover, until the box is in service. The vault's numbers and the key are read anew. A box that is
@@ -136,8 +138,9 @@ impl Runner {
         self.vault = self.folder.vault()?;
         self.key = self.folder.key()?;
         let numbers = *self.vault.numbers();
-        let checkpoint = self.card.checkpoint(numbers.s)?;
-        let Log { bytes: log, records } = self.card.log()?;
+        let card = self.card()?;
+        let checkpoint = card.checkpoint(numbers.s)?;
+        let Log { bytes: log, records } = card.log()?;
         self.collector = Some(Collector::load(&numbers, &self.key).map_err(Stop::Refused)?);
         let mut stores = 0;
         while self.phase() != Some(Phase::InService) {
@@ -168,7 +171,7 @@ impl Runner {
         if self.collector.is_none() {
             return Err(Stop::Off);
         }
-        let record = self.card.read_record(position)?;
+        let record = self.card()?.read_record(position)?;
         self.call(|collector, _| collector.commit(&record))
     }
 
@@ -215,14 +218,12 @@ impl Runner {
     /// Lifts the card out and puts another one in, with power or without.
     pub fn swap_card(&mut self, folder: &Path) -> Result<(), Fault> {
         Card::open(folder, self.folder.disk())?;
-        self.folder.put_in(folder)?;
-        self.card = self.folder.card()?;
-        Ok(())
+        self.folder.put_in(folder)
     }
 
-    /// Its card.
-    pub fn card(&self) -> &Card {
-        &self.card
+    /// The card that is in; a fault where there is none.
+    pub fn card(&self) -> Result<Card, Fault> {
+        self.folder.card()
     }
 
     /// Its folder.
@@ -305,10 +306,10 @@ impl Runner {
     fn store(&mut self, store: &Store, len: usize) -> Result<(), Fault> {
         let bytes = self.out.get(..len).unwrap_or_default();
         match *store {
-            Store::Record { position } => self.card.write_record(position, bytes),
-            Store::Checkpoint => self.card.write_checkpoint(bytes),
-            Store::Delete { below } => self.card.delete_below(below),
-            Store::Empty => self.card.empty(),
+            Store::Record { position } => self.card()?.write_record(position, bytes),
+            Store::Checkpoint => self.card()?.write_checkpoint(bytes),
+            Store::Delete { below } => self.card()?.delete_below(below),
+            Store::Empty => self.card()?.empty(),
             Store::W { .. }
             | Store::V { .. }
             | Store::R { .. }

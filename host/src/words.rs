@@ -48,7 +48,7 @@ pub const SENTENCES: [Sentence; 15] = [
     Sentence {
         number: 8,
         means: "a counter of the vault is spent",
-        then: "Read the table off and change the box: this one cannot count on.",
+        then: "Change the box: this one cannot count on. If it is still in service, read its table off first.",
     },
     Sentence {
         number: 9,
@@ -57,7 +57,7 @@ pub const SENTENCES: [Sentence; 15] = [
     },
     Sentence {
         number: 10,
-        means: "a record on the card is from before an earlier start of the box",
+        means: "a record on the card is of an earlier epoch: it was sealed before a start of the box that began a new one",
         then: "This is an old card or a mixed one: put the box's own card in and start again.",
     },
     Sentence {

@@ -63,7 +63,7 @@ fn a_change_cut_anywhere_leaves_one_card_that_is_taken() {
             let place = Place::new(&format!("change-{store}-{moment}"));
             let mut runner = box_with_readings(&place);
             let visible = readings(&runner);
-            let old = runner.card().folder().to_path_buf();
+            let old = runner.card().expect("there").folder().to_path_buf();
             let new = place.join("new");
             Card::create(&new, Disk::Quick).expect("made");
             runner.cut_at(store, moment);
@@ -83,9 +83,9 @@ fn a_copied_card_is_as_good_until_one_of_both_goes_on() {
     let place = Place::new("copied");
     let mut runner = box_with_readings(&place);
     let visible = readings(&runner);
-    let old = runner.card().folder().to_path_buf();
+    let old = runner.card().expect("there").folder().to_path_buf();
     runner.cut();
-    runner.card().copy_to(&place.join("copy")).expect("copied");
+    runner.card().expect("there").copy_to(&place.join("copy")).expect("copied");
     assert_eq!(number(&mut runner, &place.join("copy")), 0);
     assert_eq!(readings(&runner), visible);
     assert_eq!(number(&mut runner, &old), 12);
@@ -107,11 +107,38 @@ fn a_card_swapped_in_service_is_mended_by_a_point_a_checkpoint_and_a_truncation(
 }
 
 #[test]
+fn readings_on_two_cards_are_put_together_on_one() {
+    let place = Place::new("together");
+    let mut runner = box_with_readings(&place);
+    let old = runner.card().expect("there").folder().to_path_buf();
+    let new = place.join("new");
+    Card::create(&new, Disk::Quick).expect("made");
+    runner.swap_card(&new).expect("put in");
+    let writes = [Write { meter: 3, code: 1, reading: 99 }];
+    runner.take(2, &transaction::bytes(900, &writes)).expect("taken");
+    runner.point(None).expect("set");
+    runner.checkpoint().expect("made");
+    let visible = readings(&runner);
+    runner.cut();
+    assert_eq!(number(&mut runner, &new), 11);
+    assert_eq!(number(&mut runner, &old), 12);
+    // All files of both on the old card: checkpoints to checkpoints, records to records.
+    for (from, to) in [("checkpoints", "checkpoints"), ("records.0", "records.1")] {
+        for entry in std::fs::read_dir(new.join(from)).expect("there") {
+            let entry = entry.expect("read");
+            std::fs::copy(entry.path(), old.join(to).join(entry.file_name())).expect("copied");
+        }
+    }
+    assert_eq!(number(&mut runner, &old), 0);
+    assert_eq!(readings(&runner), visible);
+}
+
+#[test]
 fn a_store_that_cannot_be_done_stops_the_box() {
     let place = Place::new("stopped");
     let mut runner = box_with_readings(&place);
     let visible = readings(&runner);
-    let card = runner.card().folder().to_path_buf();
+    let card = runner.card().expect("there").folder().to_path_buf();
     // The card is gone when the record is to be written.
     std::fs::rename(&card, place.join("elsewhere")).expect("renamed");
     let writes = transaction::bytes(90, &[Write { meter: 3, code: 1, reading: 9 }]);

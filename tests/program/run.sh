@@ -1,6 +1,6 @@
 #!/bin/sh
 # The program paviluko as a person uses it: sessions with expected answers, wrong command lines, odd input, damaged files,
-# and the program killed at random moments. A line each.
+# cards changed and damaged, and the program killed at random moments. A line each.
 # Run from the repository's top; the library is built before. PAVILUKO_LIB may name another folder with its archive.
 # With the argument --write, the answers become the expected ones (look at them before you commit them).
 set -eu
@@ -84,13 +84,24 @@ for script in "$here"/*.in; do
     diff "$expected" "$place/out" >&2 || fail "$(basename "$script"): other answers than expected"
     [ "$status" = "$wanted" ] || fail "$(basename "$script"): exit status $status and not $wanted"
     # The same from a file.
-    rm -rf box spring hour-ago empty fresh old
+    fresh
+    files_for_csv
     quietly "$program" new box
     "$program" run box "$script" >"$place/again" 2>&1 || true
     diff "$place/out" "$place/again" >&2 || fail "$(basename "$script"): other answers from a file"
     sessions=$((sessions + 1))
 done
 echo "program: $sessions sessions answered as expected"
+
+# The session on the fitter's page.
+fresh
+sed -n '/^    paviluko> /,/^    paviluko> quit/s/^    //p' "$top/docs/FITTER.md" >page
+sed -n 's/^paviluko> //p' page >script
+[ -s script ] || fail 'docs/FITTER.md has no session'
+quietly "$program" new box
+"$program" run box script >out || true
+grep -v '^paviluko> ' page | diff - out >&2 || fail 'docs/FITTER.md: other answers than the program gives'
+echo "program: the session on the fitter's page is what the program answers"
 
 # ---- command lines and odd input ----
 
@@ -205,6 +216,8 @@ echo nowhere >box/card;                     damaged 1 'box/nowhere: not found'
 echo key >box/card;                         damaged 1 'box/key: is not a folder'
 rm -r box/card-1;                           damaged 1 'box/card-1: not found'
 
+rm box/lock; mkfifo box/lock;               damaged 1 'box/lock: is not a file'
+
 flip "$(record 0)" 0;                       damaged 1 'refused: 9 (byte 0)'
 flip "$(record 1)" 30;                      damaged 1 'refused: 9 (byte 56)'
 flip "$(record 2)" 55;                      damaged 1 'refused: 9 (byte 112)'
@@ -246,6 +259,14 @@ cp "other/${files#box/}/"* "$files";        damaged 1 'refused: 9 (byte 0)'
 mv "$(checkpoint 2)" "$files/of-any-name";  damaged 0 'in service'
 rm -r box/card-1; cp -r other/card-1 box;   damaged 1 'refused: 9 (byte 0)'
 
+# A card that was lifted out, and put back in the same session.
+mv box/card-1 lifted
+printf 'status\nstart\ntake 0 1 1=1:1\ncopy-card x\ntruncate\nswap-card lifted\nstart\ntable --csv\n' >lifted.in
+expect 1 'card       box/card-1: not found' "$program" run box lifted.in
+tail -n 3 "$log" | diff table - >&2 || fail 'another table, after a card was lifted out'
+rm -rf box lifted
+cp -r good box
+
 # Vaults whose numbers are whole and cannot be right, or are spent.
 numbers() {
     printf 'w %s 0 0 0 0 0 0 0\nv %s 0 0 0 0 0 0 0\nr 0 0 0 0 0 0 0 0\ne 0\ns %s\nn 0\nsum %s\n' "$@" >box/vault
@@ -261,6 +282,8 @@ cd "$top"
 quietly cargo test --release --offline --locked --quiet -p paviluko_host --lib --bins
 quietly cargo test --release --offline --locked --quiet -p paviluko_host --test cards
 echo 'program: vault file, card folder and the change of a card, cut at every store'
+quietly cargo test --release --offline --locked --quiet -p paviluko_host --test odd -- --nocapture
+echo "program: random commands and files, no panic; $(grep -o '[0-9]* damaged cards.*table' "$log")"
 quietly cargo test --release --offline --locked --quiet -p paviluko_host --test killed -- --nocapture
 echo "program: $(grep -o '[0-9]* kills.*' "$log")"
 quietly "$program" demo

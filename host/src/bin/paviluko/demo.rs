@@ -248,7 +248,7 @@ impl Demo {
                 truncations += 1;
             }
             if turn == 500 {
-                self.runner.card().copy_to(copy)?;
+                self.runner.card()?.copy_to(copy)?;
             }
         }
         self.check()?;
@@ -264,11 +264,11 @@ impl Demo {
         for _ in 0..40 {
             self.take()?;
         }
-        let before = self.runner.card().held()?.records;
+        let before = self.runner.card()?.held()?.records;
         let point = self.runner.point(None)?;
         let (version, seal) = self.runner.checkpoint()?;
         self.runner.truncate(None)?;
-        let after = self.runner.card().held()?.records;
+        let after = self.runner.card()?.held()?.records;
         self.check()?;
         self.say(&format!("point at {point}; checkpoint of version {version}, seal number {seal}"))?;
         self.say(&format!("the card held {before} records, and holds {after} behind the truncation"))
@@ -356,10 +356,10 @@ impl Demo {
     /// 7. Cards that are not the right one.
     fn other_cards(&mut self, place: &Place) -> Result<(), Trouble> {
         self.heading(7, "The wrong cards, and the right one")?;
-        let own = self.runner.card().folder().to_path_buf();
+        let own = self.runner.card()?.folder().to_path_buf();
         let (earlier, empty) = (place.join("an-hour-ago"), place.join("empty"));
         self.take()?;
-        self.runner.card().copy_to(&earlier)?;
+        self.runner.card()?.copy_to(&earlier)?;
         self.take()?;
         fs::create_dir(&empty).map_err(Fault::unusable(&empty))?;
         self.runner.cut();

@@ -110,7 +110,12 @@ fn converse(mut session: Session, mut input: impl BufRead, prompt: bool) -> io::
             write!(out, "paviluko> ")?;
             out.flush()?;
         }
-        let Some(line) = next_line(&mut input)? else { break };
+        let Some(line) = next_line(&mut input)? else {
+            if prompt {
+                writeln!(out)?;
+            }
+            break;
+        };
         let answer = match line {
             Some(text) => session.command(&text),
             None => session::Answer::failed(format!("a line of more than {LONGEST_LINE} bytes is no command")),

@@ -66,11 +66,12 @@ pub fn status(runner: &Runner) -> String {
 
 /// The card that is in, and what it holds.
 pub fn card(runner: &Runner) -> String {
-    let card = runner.card();
-    let folder = near(card.folder());
-    match card.held() {
-        Ok(held) => format!("{folder}: {}, {}", count(held.records, "record"), count(held.checkpoints, "checkpoint")),
-        Err(fault) => format!("{fault}"),
+    let seen = runner.card().and_then(|card| card.held().map(|held| (near(card.folder()), held)));
+    match seen {
+        Ok((folder, held)) => {
+            format!("{folder}: {}, {}", count(held.records, "record"), count(held.checkpoints, "checkpoint"))
+        }
+        Err(fault) => fault.to_string(),
     }
 }
 

@@ -239,9 +239,12 @@ impl Session {
 
     fn truncate(&mut self, at: Option<&str>) -> Result<Answer, Stop> {
         let Some(at) = position(at) else { return Ok(Answer::wrong("the position as a number")) };
-        let before = self.runner.card().held()?.records;
+        if self.runner.collector().is_none() {
+            return Err(Stop::Off);
+        }
+        let before = self.runner.card()?.held()?.records;
         let at = self.runner.truncate(at)?;
-        let deleted = before.saturating_sub(self.runner.card().held()?.records);
+        let deleted = before.saturating_sub(self.runner.card()?.held()?.records);
         Ok(Answer::fine(format!("truncated at {at}: {} deleted from the card", screen::count(deleted, "record"))))
     }
 
@@ -256,7 +259,7 @@ impl Session {
     }
 
     fn copy_card(&mut self, dir: &Path) -> Result<Answer, Stop> {
-        self.runner.card().copy_to(dir)?;
+        self.runner.card()?.copy_to(dir)?;
         Ok(Answer::fine(format!("card copied to {}", shown(dir))))
     }
 
