@@ -168,10 +168,9 @@ impl Card {
         if fs::symlink_metadata(folder).is_ok() {
             return Err(Fault::damaged(folder, "there is something of that name already"));
         }
-        let mut unfinished = folder.as_os_str().to_os_string();
-        unfinished.push(".new");
-        let unfinished = PathBuf::from(unfinished);
-        let _ = fs::remove_dir_all(&unfinished);
+        // A name of its own until it is complete; what a cut leaves of it is in nobody's way.
+        let name = folder.file_name().unwrap_or_default().to_string_lossy();
+        let unfinished = folder.with_file_name(format!(".{name}.{}.new", std::process::id()));
         copy_folder(&self.folder, &unfinished, 0).map_err(Fault::unusable(folder))?;
         fs::rename(&unfinished, folder).map_err(Fault::unusable(folder))
     }
@@ -213,6 +212,7 @@ impl Card {
         for position in kept {
             let name = name_of(position);
             // A second name for the same file; a copy where the card's file system has no second names.
+            files::step().map_err(Fault::unusable(&new))?;
             if fs::hard_link(old.join(&name), new.join(&name)).is_err() {
                 let bytes = files::read_at_most(&old.join(&name), LOG_LEN)?;
                 files::replace(&new, &name, &bytes, 0o644, self.disk)?;
@@ -222,7 +222,7 @@ impl Card {
         files::replace(&self.folder, LOG, format!("generation {next}\n").as_bytes(), 0o644, self.disk)?;
         // The store is done. What cannot be swept now is read by nobody, and is tried again the next time.
         for other in generations.into_iter().chain([from]) {
-            let _ = fs::remove_dir_all(self.records(other));
+            let _ = files::step().and_then(|()| fs::remove_dir_all(self.records(other)));
         }
         Ok(())
     }
@@ -238,7 +238,7 @@ impl Card {
         if folder.is_dir() {
             return Ok(());
         }
-        fs::create_dir(folder).map_err(Fault::unusable(folder))?;
+        files::step().and_then(|()| fs::create_dir(folder)).map_err(Fault::unusable(folder))?;
         files::settle(&self.folder, self.disk)
     }
 }
@@ -304,6 +304,7 @@ fn copy_folder(from: &Path, to: &Path, depth: u32) -> io::Result<()> {
 #[cfg(test)]
 mod tests {
     use super::*;
+    use crate::files::power::cut_everywhere;
     use crate::files::scratch::Scratch;
 
     fn file(version: u64, seal: u64) -> Vec<u8> {
@@ -359,6 +360,35 @@ mod tests {
         assert_eq!(card.checkpoint(0).expect("read"), []);
         assert_eq!(card.checkpoint(3).expect("read"), file(3, 5));
         assert_eq!(card.checkpoint(9).expect("read"), file(4, 6));
+    }
+
+    /// A card with records and a checkpoint, and what a recovery would see of it.
+    fn cut(store: impl Fn(&Card) -> Result<(), Fault>) -> u32 {
+        let scratch = Scratch::new();
+        let folder = scratch.path().join("card");
+        let prepare = || {
+            let _ = fs::remove_dir_all(&folder);
+            let card = Card::create(&folder, Disk::Quick).expect("made");
+            for position in 4..9 {
+                card.write_record(position, &[position as u8; 50]).expect("written");
+            }
+            card.write_checkpoint(&file(1, 1)).expect("written");
+            card
+        };
+        let see = |card: &Card| {
+            let checkpoints = [1, 2].map(|version| card.checkpoint(version).expect("read"));
+            (card.log().expect("read").bytes, checkpoints.map(|bytes| head(&bytes)))
+        };
+        cut_everywhere(prepare, |card: &mut Card| store(card), see)
+    }
+
+    #[test]
+    fn every_store_is_wholly_done_or_not() {
+        assert!(cut(|card| card.write_record(9, &[9; 99])) >= 3);
+        assert!(cut(|card| card.write_checkpoint(&file(2, 2))) >= 3);
+        assert!(cut(|card| card.delete_below(6)) >= 7);
+        assert!(cut(|card| card.delete_below(100)) >= 4);
+        assert!(cut(|card| card.empty()) >= 4);
     }
 
     #[test]

@@ -91,13 +91,22 @@ pub fn replace(folder: &Path, name: &str, bytes: &[u8], mode: u32, disk: Disk) -
     let last = folder.join(name);
     let first = folder.join(format!(".{name}.new"));
     write_new(&first, bytes, mode, disk).map_err(Fault::unusable(&last))?;
-    fs::rename(&first, &last).map_err(Fault::unusable(&last))?;
+    step().and_then(|()| fs::rename(&first, &last)).map_err(Fault::unusable(&last))?;
     settle(folder, disk)
+}
+
+/// Stands before everything that changes a file or a folder. In tests the power can fail here.
+pub(crate) fn step() -> io::Result<()> {
+    #[cfg(test)]
+    power::step()?;
+    Ok(())
 }
 
 /// Writes the temporary file.
 fn write_new(path: &Path, bytes: &[u8], mode: u32, disk: Disk) -> io::Result<()> {
+    step()?;
     let mut file = OpenOptions::new().write(true).create(true).truncate(true).mode(mode).open(path)?;
+    step()?;
     file.write_all(bytes)?;
     match disk {
         Disk::Wait => file.sync_all(),
@@ -124,6 +133,70 @@ pub fn read_at_most(path: &Path, limit: usize) -> Result<Vec<u8>, Fault> {
         Ok(Some(bytes))
     };
     read().map_err(Fault::unusable(path))?.ok_or_else(|| Fault::damaged(path, "is not a file"))
+}
+
+#[cfg(test)]
+pub mod power {
+    //! The power of a test: it fails after so many steps, and then nothing changes any more until it is back.
+
+    use std::cell::Cell;
+    use std::io;
+
+    thread_local! {
+        static LEFT: Cell<Option<u32>> = const { Cell::new(None) };
+    }
+
+    /// The power fails after so many steps from here.
+    pub fn fails_after(steps: u32) {
+        LEFT.set(Some(steps));
+    }
+
+    /// The power is back. Whether it had failed.
+    pub fn back() -> bool {
+        LEFT.replace(None) == Some(0)
+    }
+
+    pub fn step() -> io::Result<()> {
+        match LEFT.get() {
+            None => Ok(()),
+            Some(0) => Err(io::Error::other("no power")),
+            Some(left) => {
+                LEFT.set(Some(left - 1));
+                Ok(())
+            }
+        }
+    }
+
+    /// Does a store with the power failing before each of its steps in turn: what is seen then is what was seen before
+    /// it, or what is seen after it; and the store can be done again. How many steps it has.
+    pub fn cut_everywhere<T, S: PartialEq + std::fmt::Debug, E: std::fmt::Debug>(
+        prepare: impl Fn() -> T,
+        store: impl Fn(&mut T) -> Result<(), E>,
+        see: impl Fn(&T) -> S,
+    ) -> u32 {
+        let mut whole = prepare();
+        store(&mut whole).expect("done");
+        let done = see(&whole);
+        for steps in 0.. {
+            let mut thing = prepare();
+            let before = see(&thing);
+            fails_after(steps);
+            let said = store(&mut thing);
+            let failed = back();
+            let seen = see(&thing);
+            assert!(seen == before || seen == done, "after {steps} steps: {seen:?}");
+            if !failed {
+                assert_eq!(seen, done);
+                return steps;
+            }
+            if said.is_ok() {
+                assert_eq!(seen, done, "said to be done after {steps} steps");
+            }
+            store(&mut thing).expect("done again");
+            assert_eq!(see(&thing), done);
+        }
+        unreachable!()
+    }
 }
 
 #[cfg(test)]

@@ -107,8 +107,7 @@ pub struct Numbered {
     pub position: u64,
 }
 
-/// A box that runs, or could.
-#[derive(Debug)]
+/// A box that runs, or could. It holds the key, so it has no way to be printed.
 pub struct Runner {
     folder: BoxFolder,
     key: [u8; KEY_LEN],

@@ -122,6 +122,7 @@ fn checksum(bytes: &[u8]) -> u64 {
 #[cfg(test)]
 mod tests {
     use super::*;
+    use crate::files::power::cut_everywhere;
     use crate::files::scratch::Scratch;
 
     #[test]
@@ -138,6 +139,19 @@ mod tests {
         let mut expected = Numbers { n: 9, ..Numbers::default() };
         expected.w[7] = 3;
         assert_eq!(*again.numbers(), expected);
+    }
+
+    #[test]
+    fn a_number_is_wholly_set_or_not() {
+        let scratch = Scratch::new();
+        let prepare = || {
+            let mut vault = VaultFile::create(scratch.path(), Disk::Quick).expect("made");
+            vault.set(&Store::S { value: 99 }).expect("set");
+            vault
+        };
+        let see = |_: &VaultFile| *VaultFile::open(scratch.path(), Disk::Wait).expect("open").numbers();
+        let store = |vault: &mut VaultFile| vault.set(&Store::S { value: 100 });
+        assert!(cut_everywhere(prepare, store, see) >= 3);
     }
 
     #[test]

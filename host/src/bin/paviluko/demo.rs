@@ -219,7 +219,11 @@ fn show(place: &Place) -> Result<(), Trouble> {
     }
     demo.cut_the_rest()?;
     demo.other_cards(place)?;
-    demo.end()
+    demo.end()?;
+    if !place.passing {
+        writeln!(io::stdout(), "the box and its cards are in {}", shown(&place.folder))?;
+    }
+    Ok(())
 }
 
 impl Demo {
