@@ -13,11 +13,13 @@ here=$top/tests/program
 [ -f "$library" ] || { echo "$library is missing: build it first" >&2; exit 1; }
 PAVILUKO_LIB=$(cd "$(dirname "$library")" && pwd)
 export PAVILUKO_LIB
+sh tests/cipher/packages.sh gcc libc6-dev
 
 memory=/dev/shm
 [ -d "$memory" ] && [ -w "$memory" ] || memory=${TMPDIR:-/tmp}
 place=$(mktemp -d "$memory/paviluko-program.XXXXXX")
 trap 'rm -rf "$place"' EXIT
+trap 'exit 1' INT TERM
 log=$place/log
 
 fail() {
