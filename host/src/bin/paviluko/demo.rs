@@ -383,7 +383,10 @@ impl Demo {
         let before = *self.runner.numbers();
         match self.runner.start() {
             Err(Stop::Refused(refusal @ Refusal { number: said, .. })) if said == number => {
-                self.say(&format!("{what}: refused: {refusal}"))?;
+                let text = refusal.to_string();
+                let (means, then) = text.split_once(". ").unwrap_or((&text, ""));
+                self.say(&format!("{what}: refused: {means}."))?;
+                self.say(&format!("    {then}"))?;
             }
             Err(stop) => return wrong(format!("{what}: {number} was expected, and not {stop}")),
             Ok(_) => return wrong(format!("{what} was taken")),

@@ -78,12 +78,6 @@ impl From<Stop> for Answer {
     }
 }
 
-impl From<Fault> for Answer {
-    fn from(fault: Fault) -> Answer {
-        Answer::from(Stop::Failed(fault))
-    }
-}
-
 /// Text with an end of line.
 fn lines(mut text: String) -> String {
     if !text.is_empty() && !text.ends_with('\n') {
