@@ -27,5 +27,6 @@ sh tests/sealed/run.sh
 rt staticlib paviluko | tail -n 1
 sh tests/boundary/run.sh
 sh tests/histories/run.sh
+sh tests/program/run.sh
 
 echo "$verdict"

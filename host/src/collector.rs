@@ -6,8 +6,7 @@
 
 use std::fmt;
 
-use crate::ffi;
-use crate::{METERS, Numbers};
+use crate::{METERS, Numbers, ffi, words};
 
 /// A store that the host has to carry out before the next call.
 #[derive(Clone, Copy, Debug, PartialEq, Eq)]
@@ -34,6 +33,23 @@ pub enum Store {
     Empty,
 }
 
+impl fmt::Display for Store {
+    fn fmt(&self, to: &mut fmt::Formatter) -> fmt::Result {
+        match self {
+            Store::W { lane, value } => write!(to, "W of lane {lane} = {value}"),
+            Store::V { lane, value } => write!(to, "V of lane {lane} = {value}"),
+            Store::R { lane, value } => write!(to, "R of lane {lane} = {value}"),
+            Store::E { value } => write!(to, "E = {value}"),
+            Store::S { value } => write!(to, "S = {value}"),
+            Store::N { value } => write!(to, "N = {value}"),
+            Store::Record { position } => write!(to, "the record at position {position}"),
+            Store::Checkpoint => write!(to, "the checkpoint file"),
+            Store::Delete { below } => write!(to, "deleting the records below {below}"),
+            Store::Empty => write!(to, "emptying the log"),
+        }
+    }
+}
+
 /// What a taken call says.
 #[derive(Clone, Copy, Debug, PartialEq, Eq)]
 pub struct Taken {
@@ -53,34 +69,27 @@ pub struct Refusal {
 }
 
 impl Refusal {
-    /// The cause, in words.
-    pub fn cause(&self) -> &'static str {
+    /// What the value returned with the number is, in words; nothing where there is none.
+    fn detail(&self) -> Option<String> {
         match self.number {
-            1 => "another store is due, or the collector is not in the right condition",
-            2 => "the vault's numbers break Load's rule or the maximum",
-            3 => "a wrong length",
-            4 => "not a transaction",
-            5 => "no such lane",
-            6 => "position too low",
-            7 => "128 records or 8 points held",
-            8 => "a counter is spent",
-            9 => "the bytes do not open",
-            10 => "wrong epoch",
-            11 => "number out of turn",
-            12 => "not the checkpoint of the vault's version",
-            13 => "visible records are missing",
-            14 => "no such point, or not covered",
-            15 => "a record below the point is not visible",
-            _ => "unknown",
+            3 => Some(format!("length {}", self.value)),
+            9..=11 => Some(format!("byte {}", self.value)),
+            13 => Some(format!("lane {}", self.value)),
+            _ => None,
         }
     }
 }
 
+/// The number, with what it means and what to do.
 impl fmt::Display for Refusal {
     fn fmt(&self, to: &mut fmt::Formatter) -> fmt::Result {
-        match self.number {
-            3 | 9 | 10 | 11 | 13 => write!(to, "{}, {} ({})", self.number, self.value, self.cause()),
-            _ => write!(to, "{} ({})", self.number, self.cause()),
+        write!(to, "{}", self.number)?;
+        if let Some(detail) = self.detail() {
+            write!(to, " ({detail})")?;
+        }
+        match words::sentence(self.number) {
+            Some(sentence) => write!(to, ", {}. {}", sentence.means, sentence.then),
+            None => Ok(()),
         }
     }
 }
@@ -127,6 +136,38 @@ pub enum Due {
     RecoverV { lane: u8 },
     /// Recover's emptying of the log.
     RecoverEmpty,
+}
+
+impl fmt::Display for Phase {
+    fn fmt(&self, to: &mut fmt::Formatter) -> fmt::Result {
+        to.write_str(match self {
+            Phase::Cold => "cold",
+            Phase::Recovering => "recovering",
+            Phase::InService => "in service",
+        })
+    }
+}
+
+impl fmt::Display for Due {
+    fn fmt(&self, to: &mut fmt::Formatter) -> fmt::Result {
+        match self {
+            Due::Nothing => write!(to, "nothing"),
+            Due::Record => write!(to, "the record"),
+            Due::File => write!(to, "the checkpoint file"),
+            Due::Version => write!(to, "S"),
+            Due::TruncateR { lane, position } => write!(to, "R of lane {lane}, for the truncation at {position}"),
+            Due::TruncateDelete { position } => write!(to, "deleting the records below {position}"),
+            Due::RecoverFile { second: false } => write!(to, "recovery's first checkpoint file"),
+            Due::RecoverFile { second: true } => write!(to, "recovery's second checkpoint file"),
+            Due::RecoverVersion { second: false } => write!(to, "S, for recovery's first checkpoint"),
+            Due::RecoverVersion { second: true } => write!(to, "S, for recovery's second checkpoint"),
+            Due::RecoverSeal => write!(to, "N, for recovery's second checkpoint"),
+            Due::RecoverR { lane } => write!(to, "R of lane {lane}, in recovery"),
+            Due::RecoverEpoch => write!(to, "E, in recovery"),
+            Due::RecoverV { lane } => write!(to, "V of lane {lane}, in recovery"),
+            Due::RecoverEmpty => write!(to, "emptying the log, in recovery"),
+        }
+    }
 }
 
 impl Due {

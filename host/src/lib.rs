@@ -3,6 +3,9 @@
 //! `ffi` declares the library's C boundary again in Rust, as `include/paviluko.h` has it. `Collector` is the same in safe
 //! Rust: it keeps the state, hands it to each call, and says which store the host has to carry out before the next one.
 //!
+//! For the bench there is a whole box in a folder: a vault kept in a file (`vault`), a card kept in a folder (`card`), and a
+//! runner that carries out exactly the one named store before the next call (`runner`). The program `paviluko` runs it.
+//!
 //! ```no_run
 //! use paviluko_host::{Collector, Numbers, Store};
 //!
@@ -18,8 +21,15 @@
 //! }
 //! ```
 
+pub mod card;
 pub mod collector;
 pub mod ffi;
+pub mod files;
+pub mod folder;
+pub mod runner;
+pub mod transaction;
+pub mod vault;
+pub mod words;
 
 pub use collector::{Collector, Due, Phase, Reading, Refusal, Store, Taken};
 pub use ffi::Vault as Numbers;

@@ -1,0 +1,320 @@
+//! A box that runs: the collector's state in memory, the vault and the card in their files.
+//!
+//! The one rule of the library: a call that is taken names at most one store, and the host carries out exactly that store
+//! before the next call. Every call goes through `Runner::call`, which does so; nothing else here sets the vault or
+//! writes to the card. A store that cannot be done stops the box as a power cut does, since the next call may not come
+//! before it. The plug can be pulled before or after any store.
+
+use std::fmt;
+use std::path::Path;
+
+use crate::card::{Card, Log};
+use crate::files::{Disk, Fault};
+use crate::folder::BoxFolder;
+use crate::vault::VaultFile;
+use crate::{Collector, FILE_LEN, KEY_LEN, Numbers, Phase, Refusal, Store, Taken};
+
+/// On which side of a store the power fails.
+#[derive(Clone, Copy, Debug, PartialEq, Eq)]
+pub enum Moment {
+    /// The store is not done.
+    Before,
+    /// The store is done.
+    After,
+}
+
+impl fmt::Display for Moment {
+    fn fmt(&self, to: &mut fmt::Formatter) -> fmt::Result {
+        to.write_str(match self {
+            Moment::Before => "before",
+            Moment::After => "after",
+        })
+    }
+}
+
+/// The plug: at which store from here it is pulled, if at any.
+#[derive(Clone, Copy, Debug, Default)]
+struct Plug {
+    set: Option<(u64, Moment)>,
+}
+
+impl Plug {
+    /// Counts a store that begins; the moment at which the power fails, if it fails at this one.
+    fn count(&mut self) -> Option<Moment> {
+        let (left, moment) = self.set?;
+        self.set = (left > 1).then_some((left.saturating_sub(1), moment));
+        (left <= 1).then_some(moment)
+    }
+}
+
+/// Why an operation did not come to its end.
+#[derive(Debug)]
+pub enum Stop {
+    /// The box has no power.
+    Off,
+    /// The library refused a call; the state is as before it.
+    Refused(Refusal),
+    /// The plug was pulled; the state is lost.
+    Cut { moment: Moment, store: Store },
+    /// A store could not be done; the state is lost.
+    Store { store: Store, fault: Fault },
+    /// A file could not be read; the state is as before.
+    Failed(Fault),
+}
+
+impl From<Fault> for Stop {
+    fn from(fault: Fault) -> Stop {
+        Stop::Failed(fault)
+    }
+}
+
+impl fmt::Display for Stop {
+    fn fmt(&self, to: &mut fmt::Formatter) -> fmt::Result {
+        match self {
+            Stop::Off => write!(to, "the box has no power: start it first"),
+            Stop::Refused(refusal) => write!(to, "refused: {refusal}"),
+            Stop::Cut { moment, store } => {
+                write!(to, "power cut {moment} the store ({store}): the state is lost; go on with start")
+            }
+            Stop::Store { store, fault } => {
+                write!(
+                    to,
+                    "failed: the store ({store}) was not done: {fault}. The box has stopped; mend this, then start"
+                )
+            }
+            Stop::Failed(fault) => write!(to, "failed: {fault}"),
+        }
+    }
+}
+
+/// What a start came to.
+#[derive(Clone, Copy, Debug, PartialEq, Eq)]
+pub struct Started {
+    /// Stores of the recovery.
+    pub stores: usize,
+    /// Records that the card handed over.
+    pub records: usize,
+}
+
+/// A transaction that was given its number.
+#[derive(Clone, Copy, Debug, PartialEq, Eq)]
+pub struct Numbered {
+    /// Its lane.
+    pub lane: u8,
+    /// Its number in the lane.
+    pub number: u64,
+    /// Its record's position.
+    pub position: u64,
+}
+
+/// A box that runs, or could. It holds the key, so it has no way to be printed.
+pub struct Runner {
+    folder: BoxFolder,
+    key: [u8; KEY_LEN],
+    vault: VaultFile,
+    /// The state; none without power.
+    collector: Option<Collector>,
+    plug: Plug,
+    /// Stores done.
+    stores: u64,
+    /// The buffer lent to the calls that put bytes out.
+    out: Vec<u8>,
+}
+
+impl Runner {
+    /// The box of a folder, without power, and with or without a card.
+    pub fn open(folder: &Path, disk: Disk) -> Result<Runner, Fault> {
+        let folder = BoxFolder::open(folder, disk)?;
+        let (key, vault) = (folder.key()?, folder.vault()?);
+        let out = vec![0; FILE_LEN];
+        Ok(Runner { folder, key, vault, collector: None, plug: Plug::default(), stores: 0, out })
+    }
+
+    /// Load and Recover, until the box is in service. The vault's numbers and the key are read anew. A box that is
+    /// refused stays cold.
+    pub fn start(&mut self) -> Result<Started, Stop> {
+        self.collector = None;
+        self.vault = self.folder.vault()?;
+        self.key = self.folder.key()?;
+        let numbers = *self.vault.numbers();
+        let card = self.card()?;
+        let checkpoint = card.checkpoint(numbers.s)?;
+        let Log { bytes: log, records } = card.log()?;
+        self.collector = Some(Collector::load(&numbers, &self.key).map_err(Stop::Refused)?);
+        let mut stores = 0;
+        while self.phase() != Some(Phase::InService) {
+            self.call(|collector, out| collector.recover(&checkpoint, &log, out))?;
+            stores += 1;
+        }
+        Ok(Started { stores, records })
+    }
+
+    /// Accept, Seal and Commit: takes a transaction on a lane and makes it visible.
+    pub fn take(&mut self, lane: u8, transaction: &[u8]) -> Result<Numbered, Stop> {
+        let accepted = self.accept(lane, transaction)?;
+        self.commit(accepted.position)?;
+        Ok(accepted)
+    }
+
+    /// Accept and Seal: the first half of taking a transaction, up to its record on the card.
+    pub fn accept(&mut self, lane: u8, transaction: &[u8]) -> Result<Numbered, Stop> {
+        let position = self.next_position();
+        self.call(|collector, _| collector.accept(transaction, lane, position))?;
+        self.call(|collector, out| collector.seal(out))?;
+        let number = self.numbers().w.get(usize::from(lane)).copied().unwrap_or_default();
+        Ok(Numbered { lane, number, position })
+    }
+
+    /// Commit: the second half. The library gets the record's bytes as the card has them.
+    pub fn commit(&mut self, position: u64) -> Result<(), Stop> {
+        if self.collector.is_none() {
+            return Err(Stop::Off);
+        }
+        let record = self.card()?.read_record(position)?;
+        self.call(|collector, _| collector.commit(&record))
+    }
+
+    /// Point: sets a point, behind all records if no position is given. Where it stands.
+    pub fn point(&mut self, position: Option<u64>) -> Result<u64, Stop> {
+        let position = position.unwrap_or_else(|| self.next_position());
+        self.call(|collector, _| collector.point(position))?;
+        Ok(position)
+    }
+
+    /// Checkpoint: three stores. Its version and seal number.
+    pub fn checkpoint(&mut self) -> Result<(u64, u64), Stop> {
+        for _ in 0..3 {
+            self.call(|collector, out| collector.checkpoint(out))?;
+        }
+        Ok((self.numbers().s, self.numbers().n))
+    }
+
+    /// Truncate: nine stores, at the newest covered point if no position is given. Where that was.
+    pub fn truncate(&mut self, position: Option<u64>) -> Result<u64, Stop> {
+        let position = position.or_else(|| self.covered_point()).unwrap_or_default();
+        for _ in 0..9 {
+            self.call(|collector, _| collector.truncate(position))?;
+        }
+        Ok(position)
+    }
+
+    /// Pulls the plug at once. False if there was no power.
+    pub fn cut(&mut self) -> bool {
+        self.plug = Plug::default();
+        self.collector.take().is_some()
+    }
+
+    /// Pulls the plug before or after a store, counted from here; the next one is 1.
+    pub fn cut_at(&mut self, store: u64, moment: Moment) {
+        self.plug.set = Some((store, moment));
+    }
+
+    /// Leaves the plug in.
+    pub fn cut_never(&mut self) {
+        self.plug.set = None;
+    }
+
+    /// Lifts the card out and puts another one in, with power or without.
+    pub fn swap_card(&mut self, folder: &Path) -> Result<(), Fault> {
+        Card::open(folder, self.folder.disk())?;
+        self.folder.put_in(folder)
+    }
+
+    /// The card that is in; a fault where there is none.
+    pub fn card(&self) -> Result<Card, Fault> {
+        self.folder.card()
+    }
+
+    /// Its folder.
+    pub fn folder(&self) -> &BoxFolder {
+        &self.folder
+    }
+
+    /// The collector, where there is power.
+    pub fn collector(&self) -> Option<&Collector> {
+        self.collector.as_ref()
+    }
+
+    /// The vault's numbers.
+    pub fn numbers(&self) -> &Numbers {
+        self.vault.numbers()
+    }
+
+    /// How many stores were done since the box was opened.
+    pub fn stores(&self) -> u64 {
+        self.stores
+    }
+
+    /// The store from here at which the plug will be pulled.
+    pub fn cut_set(&self) -> Option<(u64, Moment)> {
+        self.plug.set
+    }
+
+    fn phase(&self) -> Option<Phase> {
+        self.collector.as_ref().map(Collector::phase)
+    }
+
+    /// A position above every one used since service began and above the newest point. The greatest of all is given
+    /// again where there is none, and refused.
+    fn next_position(&self) -> u64 {
+        let Some(state) = self.collector.as_ref().map(Collector::state) else { return 0 };
+        let behind = |any: u8, last: u64| if any == 1 { last.saturating_add(1) } else { 0 };
+        behind(state.journal.used, state.journal.last).max(behind(state.points.any, state.points.newest))
+    }
+
+    /// The newest point that a checkpoint covers; else the newest one at all.
+    fn covered_point(&self) -> Option<u64> {
+        let points = &self.collector.as_ref()?.state().points;
+        let kept = points.items.iter().take(points.count);
+        kept.map(|point| (point.covered, point.position)).max().map(|(_, position)| position)
+    }
+
+    /// A call, and the store that it names.
+    fn call<F>(&mut self, call: F) -> Result<(), Stop>
+    where
+        F: FnOnce(&mut Collector, &mut [u8]) -> Result<Taken, Refusal>,
+    {
+        let collector = self.collector.as_mut().ok_or(Stop::Off)?;
+        let taken = call(collector, &mut self.out).map_err(Stop::Refused)?;
+        match taken.store {
+            Some(store) => self.carry_out(store, taken.len),
+            None => Ok(()),
+        }
+    }
+
+    /// Carries out a store, unless the plug is pulled before it.
+    fn carry_out(&mut self, store: Store, len: usize) -> Result<(), Stop> {
+        let pulled = self.plug.count();
+        if pulled == Some(Moment::Before) {
+            self.collector = None;
+            return Err(Stop::Cut { moment: Moment::Before, store });
+        }
+        if let Err(fault) = self.store(&store, len) {
+            self.collector = None;
+            return Err(Stop::Store { store, fault });
+        }
+        self.stores += 1;
+        if pulled == Some(Moment::After) {
+            self.collector = None;
+            return Err(Stop::Cut { moment: Moment::After, store });
+        }
+        Ok(())
+    }
+
+    /// Does a store.
+    fn store(&mut self, store: &Store, len: usize) -> Result<(), Fault> {
+        let bytes = self.out.get(..len).unwrap_or_default();
+        match *store {
+            Store::Record { position } => self.card()?.write_record(position, bytes),
+            Store::Checkpoint => self.card()?.write_checkpoint(bytes),
+            Store::Delete { below } => self.card()?.delete_below(below),
+            Store::Empty => self.card()?.empty(),
+            Store::W { .. }
+            | Store::V { .. }
+            | Store::R { .. }
+            | Store::E { .. }
+            | Store::S { .. }
+            | Store::N { .. } => self.vault.set(store),
+        }
+    }
+}

@@ -1,0 +1,172 @@
+//! A vault kept in a file: 27 numbers that only rise.
+//!
+//! The file is text: a line for W, V and R of the eight lanes, a line each for E, S and N, and a checksum of those lines,
+//! so that a damaged file is noticed. Setting a number writes the whole file anew, or not at all. The file stands for
+//! the vault chip of a box: it is as safe as the folder it lies in.
+
+use std::path::{Path, PathBuf};
+
+use crate::files::{self, Disk, Fault};
+use crate::{LANES, Numbers, Store};
+
+/// The file's name in a box's folder.
+const NAME: &str = "vault";
+/// Longer than any vault file.
+const LONGEST: usize = 4096;
+
+/// A vault in a file.
+#[derive(Debug)]
+pub struct VaultFile {
+    folder: PathBuf,
+    numbers: Numbers,
+    disk: Disk,
+}
+
+impl VaultFile {
+    /// A new vault in a folder, all numbers zero.
+    pub fn create(folder: &Path, disk: Disk) -> Result<VaultFile, Fault> {
+        let vault = VaultFile { folder: folder.to_path_buf(), numbers: Numbers::default(), disk };
+        vault.write(&vault.numbers)?;
+        Ok(vault)
+    }
+
+    /// The vault of a folder. A damaged file is a fault.
+    pub fn open(folder: &Path, disk: Disk) -> Result<VaultFile, Fault> {
+        let path = folder.join(NAME);
+        let bytes = files::read_at_most(&path, LONGEST)?;
+        let numbers = parse(&bytes).ok_or_else(|| {
+            Fault::damaged(&path, "damaged, its numbers do not match their checksum: keep the card and change the box")
+        })?;
+        Ok(VaultFile { folder: folder.to_path_buf(), numbers, disk })
+    }
+
+    /// The 27 numbers.
+    pub fn numbers(&self) -> &Numbers {
+        &self.numbers
+    }
+
+    /// Sets the number that a store names. One that would fall is left, and is a fault; so is a store that is not the
+    /// vault's.
+    pub fn set(&mut self, store: &Store) -> Result<(), Fault> {
+        let mut next = self.numbers;
+        let (place, value) = place(&mut next, store).ok_or_else(|| Fault::Lowered {
+            what: format!("no number: {store}"),
+            from: 0,
+            to: 0,
+        })?;
+        if value < *place {
+            return Err(Fault::Lowered { what: store.to_string(), from: *place, to: value });
+        }
+        *place = value;
+        self.write(&next)?;
+        self.numbers = next;
+        Ok(())
+    }
+
+    fn write(&self, numbers: &Numbers) -> Result<(), Fault> {
+        files::replace(&self.folder, NAME, text(numbers).as_bytes(), 0o600, self.disk)
+    }
+}
+
+/// The number that a store sets, and to what; nothing for a store of the card.
+fn place<'a>(numbers: &'a mut Numbers, store: &Store) -> Option<(&'a mut u64, u64)> {
+    match *store {
+        Store::W { lane, value } => Some((numbers.w.get_mut(usize::from(lane))?, value)),
+        Store::V { lane, value } => Some((numbers.v.get_mut(usize::from(lane))?, value)),
+        Store::R { lane, value } => Some((numbers.r.get_mut(usize::from(lane))?, value)),
+        Store::E { value } => Some((&mut numbers.e, value)),
+        Store::S { value } => Some((&mut numbers.s, value)),
+        Store::N { value } => Some((&mut numbers.n, value)),
+        Store::Record { .. } | Store::Checkpoint | Store::Delete { .. } | Store::Empty => None,
+    }
+}
+
+/// The file's text.
+pub fn text(numbers: &Numbers) -> String {
+    let row = |name: &str, values: &[u64]| {
+        let values: Vec<String> = values.iter().map(u64::to_string).collect();
+        format!("{name} {}\n", values.join(" "))
+    };
+    let Numbers { w, v, r, e, s, n } = numbers;
+    let lines = [row("w", w), row("v", v), row("r", r), row("e", &[*e]), row("s", &[*s]), row("n", &[*n])].concat();
+    let sum = checksum(lines.as_bytes());
+    format!("{lines}sum {sum:016x}\n")
+}
+
+/// The numbers of a file's text; nothing where it is not exactly what `text` writes.
+fn parse(bytes: &[u8]) -> Option<Numbers> {
+    let all = std::str::from_utf8(bytes).ok()?;
+    let mut lines = all.lines();
+    let mut row = |name: &str| -> Option<Vec<u64>> {
+        let values = lines.next()?.strip_prefix(name)?;
+        values.split_ascii_whitespace().map(|value| value.parse().ok()).collect()
+    };
+    let lanes = |values: Vec<u64>| <[u64; LANES]>::try_from(values).ok();
+    let one = |values: Vec<u64>| <[u64; 1]>::try_from(values).ok().map(|[value]| value);
+    let numbers = Numbers {
+        w: lanes(row("w")?)?,
+        v: lanes(row("v")?)?,
+        r: lanes(row("r")?)?,
+        e: one(row("e")?)?,
+        s: one(row("s")?)?,
+        n: one(row("n")?)?,
+    };
+    (text(&numbers) == all).then_some(numbers)
+}
+
+/// FNV-1a of 64 bits: it tells a damaged file from a whole one, and is no protection against anybody.
+fn checksum(bytes: &[u8]) -> u64 {
+    bytes.iter().fold(0xcbf2_9ce4_8422_2325, |sum, &b| (sum ^ u64::from(b)).wrapping_mul(0x0000_0100_0000_01b3))
+}
+
+#[cfg(test)]
+mod tests {
+    use super::*;
+    use crate::files::power::cut_everywhere;
+    use crate::files::scratch::Scratch;
+
+    #[test]
+    fn numbers_rise_and_are_read_back() {
+        let scratch = Scratch::new();
+        let mut vault = VaultFile::create(scratch.path(), Disk::Quick).expect("made");
+        vault.set(&Store::W { lane: 7, value: 3 }).expect("set");
+        vault.set(&Store::W { lane: 7, value: 3 }).expect("the same again");
+        vault.set(&Store::N { value: 9 }).expect("set");
+        assert!(matches!(vault.set(&Store::N { value: 8 }), Err(Fault::Lowered { from: 9, to: 8, .. })));
+        assert!(vault.set(&Store::W { lane: 8, value: 1 }).is_err());
+        assert!(vault.set(&Store::Empty).is_err());
+        let again = VaultFile::open(scratch.path(), Disk::Wait).expect("open");
+        let mut expected = Numbers { n: 9, ..Numbers::default() };
+        expected.w[7] = 3;
+        assert_eq!(*again.numbers(), expected);
+    }
+
+    #[test]
+    fn a_number_is_wholly_set_or_not() {
+        let scratch = Scratch::new();
+        let prepare = || {
+            let mut vault = VaultFile::create(scratch.path(), Disk::Quick).expect("made");
+            vault.set(&Store::S { value: 99 }).expect("set");
+            vault
+        };
+        let see = |_: &VaultFile| *VaultFile::open(scratch.path(), Disk::Wait).expect("open").numbers();
+        let store = |vault: &mut VaultFile| vault.set(&Store::S { value: 100 });
+        assert!(cut_everywhere(prepare, store, see) >= 3);
+    }
+
+    #[test]
+    fn no_changed_byte_passes() {
+        let numbers = Numbers { w: [12, 0, 0, 7, 0, 0, 0, 0], e: 3, ..Numbers::default() };
+        let good = text(&numbers).into_bytes();
+        assert_eq!(parse(&good), Some(numbers));
+        for at in 0..good.len() {
+            assert_eq!(parse(&good[..at]), None);
+            for bit in 0..8 {
+                let mut bad = good.clone();
+                bad[at] ^= 1 << bit;
+                assert_eq!(parse(&bad), None, "byte {at}, bit {bit}");
+            }
+        }
+        assert_eq!(parse(&[good.as_slice(), b"\n"].concat()), None);
+    }
+}

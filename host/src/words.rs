@@ -1,0 +1,124 @@
+//! The numbers on the display in words: what each means and what to do. The program prints these sentences, and
+//! `docs/FITTER.md` has the same ones in its table; a test below holds the page to them.
+
+/// A number of the display.
+#[derive(Clone, Copy, Debug, PartialEq, Eq)]
+pub struct Sentence {
+    /// 1 to 15.
+    pub number: u8,
+    /// What it means, without a full stop.
+    pub means: &'static str,
+    /// What to do.
+    pub then: &'static str,
+}
+
+/// Every number, in order.
+pub const SENTENCES: [Sentence; 15] = [
+    Sentence {
+        number: 1,
+        means: "the box is not ready for this: it is not in service, or another store is due",
+        then: "Look at status. Cut the power and start again.",
+    },
+    Sentence {
+        number: 2,
+        means: "the vault's numbers cannot be right",
+        then: "Keep the card and change the box: its vault is damaged.",
+    },
+    Sentence {
+        number: 3,
+        means: "something has the wrong length",
+        then: "At a start, the log on the card is too long to be this box's: put the box's own card in and start again.",
+    },
+    Sentence {
+        number: 4,
+        means: "this is no transaction",
+        then: "Give 1 to 16 readings, meters 0 to 255 in rising order, each with a code of 1 to 4.",
+    },
+    Sentence { number: 5, means: "there is no such lane", then: "Use lane 0 to 7." },
+    Sentence {
+        number: 6,
+        means: "the position is too low",
+        then: "Use one above the newest point and above every record since service began.",
+    },
+    Sentence {
+        number: 7,
+        means: "the box holds 128 records since its newest point, or 8 points",
+        then: "Set a point; where 8 points are kept, make a checkpoint and truncate.",
+    },
+    Sentence {
+        number: 8,
+        means: "a counter of the vault is spent",
+        then: "Change the box: this one cannot count on. If it is still in service, read its table off first.",
+    },
+    Sentence {
+        number: 9,
+        means: "something on the card does not open: it is damaged, changed, another box's, or not there",
+        then: "Put the box's own card in and start again.",
+    },
+    Sentence {
+        number: 10,
+        means: "a record on the card is of an earlier epoch: it was sealed before a start of the box that began a new one",
+        then: "This is an old card or a mixed one: put the box's own card in and start again.",
+    },
+    Sentence {
+        number: 11,
+        means: "a record on the card is out of turn: one was left out, doubled or moved",
+        then: "Put the box's own card in and start again; a reading that was not made visible is then taken anew.",
+    },
+    Sentence {
+        number: 12,
+        means: "the checkpoint on this card is not the one that the vault expects",
+        then: "This is an old card, or one from before or after a change: put the box's own card in and start again.",
+    },
+    Sentence {
+        number: 13,
+        means: "visible records are missing from the card",
+        then: "Put the box's own card in, the one that was in it last, and start again.",
+    },
+    Sentence {
+        number: 14,
+        means: "there is no such point, or no checkpoint covers it yet",
+        then: "Set a point, make a checkpoint, then truncate.",
+    },
+    Sentence {
+        number: 15,
+        means: "a record below the point is not visible",
+        then: "Cut the power and start again, take that reading anew, then set the point.",
+    },
+];
+
+/// The sentence of a number, if there is such a number.
+pub fn sentence(number: u8) -> Option<&'static Sentence> {
+    SENTENCES.iter().find(|s| s.number == number)
+}
+
+/// A code of 01 in words: medium and unit.
+pub fn medium(code: u8) -> (&'static str, &'static str) {
+    match code {
+        1 => ("cold water", "l"),
+        2 => ("warm water", "l"),
+        3 => ("heat", "kWh"),
+        4 => ("cooling", "kWh"),
+        _ => ("?", "?"),
+    }
+}
+
+#[cfg(test)]
+mod tests {
+    use super::*;
+
+    #[test]
+    fn numbers_are_1_to_15() {
+        let numbers: Vec<u8> = SENTENCES.iter().map(|s| s.number).collect();
+        assert_eq!(numbers, (1..=15).collect::<Vec<u8>>());
+    }
+
+    #[test]
+    fn the_fitters_page_has_each_sentence() {
+        let page = include_str!("../../docs/FITTER.md");
+        for s in &SENTENCES {
+            let row = format!("| {} | {} | {} |", s.number, s.means, s.then);
+            assert!(page.lines().any(|line| line == row), "docs/FITTER.md lacks: {row}");
+        }
+    }
+}

@@ -1,0 +1,292 @@
+#!/bin/sh
+# The program paviluko as a person uses it: sessions with expected answers, wrong command lines, odd input, damaged files,
+# cards changed and damaged, and the program killed at random moments. A line each.
+# Run from the repository's top; the library is built before. PAVILUKO_LIB may name another folder with its archive.
+# With the argument --write, the answers become the expected ones (look at them before you commit them).
+set -eu
+
+top=$(pwd)
+library=${PAVILUKO_LIB:-target/staticlib}/libpaviluko.a
+program=$top/target-rust/release/paviluko
+here=$top/tests/program
+
+[ -f "$library" ] || { echo "$library is missing: build it first" >&2; exit 1; }
+PAVILUKO_LIB=$(cd "$(dirname "$library")" && pwd)
+export PAVILUKO_LIB
+sh tests/cipher/packages.sh gcc libc6-dev
+
+memory=/dev/shm
+[ -d "$memory" ] && [ -w "$memory" ] || memory=${TMPDIR:-/tmp}
+place=$(mktemp -d "$memory/paviluko-program.XXXXXX")
+trap 'rm -rf "$place"' EXIT
+trap 'exit 1' INT TERM
+log=$place/log
+
+fail() {
+    echo "$1" >&2
+    exit 1
+}
+
+# Runs a command, whose output is shown only where it fails.
+quietly() {
+    "$@" >"$log" 2>&1 || { cat "$log" >&2; exit 1; }
+}
+
+# An empty folder to work in.
+fresh() {
+    cd "$place"
+    rm -rf work
+    mkdir work
+    cd work
+}
+
+# Runs a command and holds its exit status and a part of what it prints against what is expected.
+expect() {
+    wanted=$1
+    part=$2
+    shift 2
+    status=0
+    "$@" >"$log" 2>&1 </dev/null || status=$?
+    [ "$status" = "$wanted" ] || { cat "$log" >&2; fail "exit status $status and not $wanted: $*"; }
+    [ -z "$part" ] || grep -qF -- "$part" "$log" || { cat "$log" >&2; fail "not said: $part: $*"; }
+    cases=$((cases + 1))
+}
+
+# Turns over a bit of a file's byte.
+flip() {
+    byte=$(od -An -tu1 -j"$2" -N1 "$1" | tr -d ' ')
+    printf "\\$(printf %03o $((byte ^ 1)))" | dd of="$1" bs=1 seek="$2" conv=notrunc 2>/dev/null
+}
+
+quietly cargo build --release --offline --locked --quiet -p paviluko_host
+
+# ---- sessions ----
+
+files_for_csv() {
+    printf 'lane,stamp,meter,code,reading\n0,100,9,1,5\n0,100,3,2,-6\n# a note\n\n1, 100, 3, 3, 7\r\n0,100,4,4,8\n' >good.csv
+    printf '0,100,9,1,5\n0,100,10,1\n' >bad-line.csv
+    printf '0,100,9,1,5\n0,100,10,1,x\n' >bad-number.csv
+    printf '2,100,9,1,5\n2,100,8,1,5\n2,100,9,1,6\n' >twice.csv
+    printf '7,900,9,1,5\n9,900,9,1,5\n7,901,9,1,6\n' >lane-9.csv
+    awk 'BEGIN { for (i = 0; i < 300; i++) printf "%d,%d,%d,%d,%d\n", i % 8, 1000 + i, i % 256, 1 + i % 4, i }' >long.csv
+    : >empty.csv
+    printf '0,1,\377\376,1,1\n' >binary.csv
+}
+
+sessions=0
+for script in "$here"/*.in; do
+    fresh
+    files_for_csv
+    quietly "$program" new box
+    wanted=$(sed -n '1s/^# exit //p' "$script")
+    status=0
+    "$program" run box <"$script" >"$place/out" 2>&1 || status=$?
+    expected=${script%.in}.out
+    [ "${1:-}" != --write ] || cp "$place/out" "$expected"
+    diff "$expected" "$place/out" >&2 || fail "$(basename "$script"): other answers than expected"
+    [ "$status" = "$wanted" ] || fail "$(basename "$script"): exit status $status and not $wanted"
+    # The same from a file.
+    fresh
+    files_for_csv
+    quietly "$program" new box
+    "$program" run box "$script" >"$place/again" 2>&1 || true
+    diff "$place/out" "$place/again" >&2 || fail "$(basename "$script"): other answers from a file"
+    sessions=$((sessions + 1))
+done
+echo "program: $sessions sessions answered as expected"
+
+# The session on the fitter's page.
+fresh
+sed -n '/^    paviluko> /,/^    paviluko> quit/s/^    //p' "$top/docs/FITTER.md" >page
+sed -n 's/^paviluko> //p' page >script
+[ -s script ] || fail 'docs/FITTER.md has no session'
+quietly "$program" new box
+"$program" run box script >out || true
+grep -v '^paviluko> ' page | diff - out >&2 || fail 'docs/FITTER.md: other answers than the program gives'
+echo "program: the session on the fitter's page is what the program answers"
+
+# ---- command lines and odd input ----
+
+cases=0
+fresh
+expect 0 'paviluko new DIR' "$program" --help
+expect 2 'paviluko new DIR' "$program"
+expect 2 'paviluko new DIR' "$program" new
+expect 2 'paviluko new DIR' "$program" new a b
+expect 2 'paviluko new DIR' "$program" run
+expect 2 'paviluko new DIR' "$program" sell box
+expect 2 'paviluko new DIR' "$program" "$(printf '\377')"
+expect 1 'box/vault: not found' "$program" run box
+expect 1 'no/box: not found' "$program" new no/box
+expect 0 'a new box' "$program" new box
+[ "$(stat -c %a box/key box/vault)" = "$(printf '600\n600')" ] || fail 'others may read the key or the vault'
+expect 1 'this folder is not empty' "$program" new box
+expect 1 'script: not found' "$program" run box script
+expect 1 'box/key/vault: not found' "$program" run box/key
+expect 0 '' "$program" run box
+mkdir made
+expect 0 'a new box' "$program" new made
+expect 1 'demo' "$program" demo no/demo
+
+# A script from a shell's text, on the box.
+says() {
+    wanted=$1
+    part=$2
+    printf "$3" >script
+    expect "$wanted" "$part" "$program" run box script
+}
+says 0 'in service' 'start'
+says 0 'in service' '\r\n  start  \r\n'
+says 1 'unknown command: \u{0}\u{1b}[2J' '\000\033[2J\n'
+says 1 'unknown command' '\377\376\375\n'
+says 0 '' '\n\n   \n#\n'
+awk 'BEGIN { for (i = 0; i < 200000; i++) printf "take "; print ""; print "start" }' >script
+expect 1 'in service' "$program" run box script
+grep -q 'is no command' "$log" || fail 'a long line was not refused'
+head -c 300000 /dev/zero >script
+expect 1 'is no command' "$program" run box script
+expect 1 '' "$program" run box .
+awk 'BEGIN { print "start"; for (i = 0; i < 20000; i++) print "status" }' >script
+{ "$program" run box script 2>"$place/err" || true; } | head -n 1 >"$log"
+grep -q 'in service' "$log" || fail 'nothing was said to a reader that goes away'
+[ ! -s "$place/err" ] || fail "a reader went away, and: $(cat "$place/err")"
+mkfifo commands
+"$program" run box <commands >"$place/first" 2>&1 &
+first=$!
+exec 3>commands
+echo start >&3
+until grep -q 'in service' "$place/first"; do sleep 0.05; done
+expect 1 'another session runs this box' "$program" run box
+exec 3>&-
+wait "$first"
+expect 0 '' "$program" run box
+echo "program: $cases command lines and odd scripts"
+
+# ---- damaged files ----
+
+# A box with two readings of lane 0, one of lane 1, and beside it another box of the same kind.
+cases=0
+fresh
+for name in box other; do
+    quietly "$program" new "$name"
+    printf 'start\ntake 0 100 1=1:10\ntake 0 200 1=1:20\ntake 1 300 2=3:30\n' >script
+    quietly "$program" run "$name" script
+done
+printf 'start\ntable --csv\n' >script
+printf 'meter,code,reading,stamp,lane,number\n1,1,20,200,0,2\n2,3,30,300,1,1\n' >table
+cp -r box good
+records=box/card-1/records.1
+files=box/card-1/checkpoints
+record() { printf '%s/%020d' "$records" "$1"; }
+checkpoint() { printf '%s/%020d-%020d' "$files" "$1" "$1"; }
+
+# The vault's text, where there is one.
+vault() { [ ! -f box/vault ] || od -c box/vault; }
+
+# Runs the damaged box; then puts the vault, the key and the card back as they were: it is in service with its table.
+damaged() {
+    before=$(vault)
+    expect "$1" "$2" "$program" run box script
+    if [ "$1" = 1 ]; then
+        [ "$before" = "$(vault)" ] || fail "a refused start changed the vault: $2"
+        rm -rf box
+        cp -r good box
+        quietly "$program" run box script
+    fi
+    tail -n +2 "$log" | diff table - >&2 || fail "another table, after: $2"
+    rm -rf box
+    cp -r good box
+}
+
+damaged 0 'in service after 15 stores; 3 records'
+head -c 20 good/vault >box/vault;           damaged 1 'box/vault: damaged'
+flip box/vault 2;                           damaged 1 'box/vault: damaged'
+: >box/vault;                               damaged 1 'box/vault: damaged'
+head -c 9000 /dev/zero >box/vault;          damaged 1 'box/vault: damaged'
+rm box/vault;                               damaged 1 'box/vault: not found'
+rm box/vault; mkdir box/vault;              damaged 1 'box/vault: is not a file'
+rm box/vault; mkfifo box/vault;             damaged 1 'box/vault: is not a file'
+rm box/key;                                 damaged 1 'box/key: not found'
+head -c 31 good/key >box/key;               damaged 1 'box/key: damaged'
+printf '%033d\n' 0 >box/key;                damaged 1 'box/key: damaged'
+tr 0-9a-f g-v <good/key >box/key;           damaged 1 'box/key: damaged'
+cp other/key box/key;                       damaged 1 'refused: 9 (byte 0)'
+rm box/card;                                damaged 1 'box/card: not found'
+: >box/card;                                damaged 1 'box/card: damaged'
+printf '\377\n' >box/card;                  damaged 1 'box/card: damaged'
+echo nowhere >box/card;                     damaged 1 'box/nowhere: not found'
+echo key >box/card;                         damaged 1 'box/key: is not a folder'
+rm -r box/card-1;                           damaged 1 'box/card-1: not found'
+
+rm box/lock; mkfifo box/lock;               damaged 1 'box/lock: is not a file'
+
+flip "$(record 0)" 0;                       damaged 1 'refused: 9 (byte 0)'
+flip "$(record 1)" 30;                      damaged 1 'refused: 9 (byte 56)'
+flip "$(record 2)" 55;                      damaged 1 'refused: 9 (byte 112)'
+head -c 55 "good/${records#box/}/00000000000000000001" >"$(record 1)"
+damaged 1 'refused: 9 (byte 56)'
+: >"$(record 2)";                           damaged 1 'refused: 13 (lane 1)'
+rm "$(record 2)";                           damaged 1 'refused: 13 (lane 1)'
+rm "$(record 1)";                           damaged 1 'refused: 13 (lane 0)'
+rm "$(record 0)";                           damaged 1 'refused: 11 (byte 0)'
+cp "$(record 0)" "$(record 5)";             damaged 1 'refused: 11 (byte 168)'
+mv "$(record 0)" "$(record 5)";             damaged 1 'refused: 11 (byte 0)'
+mv "$(record 2)" "$(record 5)";             damaged 0 'in service'
+rm "$(record 1)"; mkdir "$(record 1)";      damaged 1 'is not a file'
+cp "other/${records#box/}/00000000000000000000" "$(record 0)"
+damaged 1 'refused: 9 (byte 0)'
+head -c 262145 /dev/zero >"$(record 9)";    damaged 1 'refused: 3 (length 262144)'
+head -c 9000000 /dev/zero >"$(record 9)";   damaged 1 'refused: 3 (length 262144)'
+echo junk >"$records/junk"; echo junk >"$records/.00000000000000000003.new"
+damaged 0 'in service after 15 stores; 3 records'
+rm -r "$records";                           damaged 1 'refused: 13 (lane 0)'
+rm -r "$records"; : >"$records";            damaged 1 'refused: 13 (lane 0)'
+rm box/card-1/log;                          damaged 1 'refused: 13 (lane 0)'
+echo 'generation one' >box/card-1/log;      damaged 1 'refused: 13 (lane 0)'
+echo 'generation 7' >box/card-1/log;        damaged 1 'refused: 13 (lane 0)'
+mkdir box/card-1/records.9; cp "$(record 0)" box/card-1/records.9
+damaged 0 'in service after 15 stores; 3 records'
+
+flip "$(checkpoint 2)" 0;                   damaged 1 'refused: 9 (byte 0)'
+flip "$(checkpoint 2)" 4;                   damaged 1 'refused: 9 (byte 0)'
+flip "$(checkpoint 2)" 3000;                damaged 1 'refused: 9 (byte 0)'
+flip "$(checkpoint 1)" 3000;                damaged 0 'in service'
+rm "$(checkpoint 1)";                       damaged 0 'in service'
+rm "$(checkpoint 2)";                       damaged 1 'refused: 12,'
+rm -r "$files";                             damaged 1 'refused: 9 (byte 0)'
+rm -r "$files"; : >"$files";                damaged 1 'refused: 9 (byte 0)'
+: >"$(checkpoint 2)";                       damaged 1 'refused: 12,'
+echo more >>"$(checkpoint 2)";              damaged 1 'refused: 9 (byte 0)'
+cp "other/${files#box/}/"* "$files";        damaged 1 'refused: 9 (byte 0)'
+mv "$(checkpoint 2)" "$files/of-any-name";  damaged 0 'in service'
+rm -r box/card-1; cp -r other/card-1 box;   damaged 1 'refused: 9 (byte 0)'
+
+# A card that was lifted out, and put back in the same session.
+mv box/card-1 lifted
+printf 'status\nstart\ntake 0 1 1=1:1\ncopy-card x\ntruncate\nswap-card lifted\nstart\ntable --csv\n' >lifted.in
+expect 1 'card       box/card-1: not found' "$program" run box lifted.in
+tail -n 3 "$log" | diff table - >&2 || fail 'another table, after a card was lifted out'
+rm -rf box lifted
+cp -r good box
+
+# Vaults whose numbers are whole and cannot be right, or are spent.
+numbers() {
+    printf 'w %s 0 0 0 0 0 0 0\nv %s 0 0 0 0 0 0 0\nr 0 0 0 0 0 0 0 0\ne 0\ns %s\nn 0\nsum %s\n' "$@" >box/vault
+}
+numbers 1 2 0 354f12af9ee43a29;                damaged 1 'refused: 2,'
+numbers 0 0 281474976710656 2e81185524e01593;  damaged 1 'refused: 2,'
+numbers 0 0 281474976710654 6313e643b0856001;  damaged 1 'refused: 8,'
+echo "program: $cases boxes with damaged files, each refused or taken as it should be, and well again with its own"
+
+# ---- kills, cards, demonstration ----
+
+cd "$top"
+quietly cargo test --release --offline --locked --quiet -p paviluko_host --lib --bins
+quietly cargo test --release --offline --locked --quiet -p paviluko_host --test cards
+echo 'program: vault file, card folder and the change of a card, cut at every store'
+quietly cargo test --release --offline --locked --quiet -p paviluko_host --test odd -- --nocapture
+echo "program: random commands and files, no panic; $(grep -o '[0-9]* damaged cards.*table' "$log")"
+quietly cargo test --release --offline --locked --quiet -p paviluko_host --test killed -- --nocapture
+echo "program: $(grep -o '[0-9]* kills.*' "$log")"
+quietly "$program" demo
+echo "program: demonstration: $(grep 'power cuts' "$log")"
