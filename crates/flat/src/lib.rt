@@ -8,10 +8,9 @@ ghost use mathlib.Core.Bool.{cond};
 ghost use mathlib.Core.List.{[]};
 ghost use Rattle.octets.specs.Lists.{at};
 ghost use Rattle.protocol.specs.Said.{numberOf, valuesOf, shown, shownAs};
-ghost use Rattle.collector.specs.Back.{answered};
 ghost use Rattle.flat.specs.Flat.{dueOf, plain, dueNumbers, phaseOf, phaseNumber, knownBy, thaw, freeze};
 ghost use Rattle.flat.specs.Replies.{named, saidOf, replyOf, notAState};
-use collector::Handed;
+use protocol::Answer;
 use protocol::Due;
 use protocol::Held;
 use protocol::Journal;
@@ -436,14 +435,13 @@ pub fn said_of(o: Outcome) -> Said
     }
 }
 
-// The reply of a call that handed this back.
-pub fn reply_of(h: Handed) -> Reply
-    ensures { λ r. ⌜ r ≡ replyOf (shownAs (answered h) []) ⌝ }
+// The reply of a call that answered so.
+pub fn reply_of(a: Answer) -> Reply
+    ensures { λ r. ⌜ r ≡ replyOf (shownAs a []) ⌝ }
 {
-    let outcome = h.outcome;
+    let outcome = a.outcome;
     let said = said_of(outcome);
-    let c = h.collector.state;
-    let state = freeze(c);
+    let state = freeze(a.state);
     Reply { state, said }
 }
 

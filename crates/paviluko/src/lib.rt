@@ -17,7 +17,6 @@ ghost use Rattle.protocol.specs.Truncate.{truncate};
 ghost use Rattle.protocol.specs.Recover.{recover};
 ghost use Rattle.flat.specs.Flat.{thaw};
 ghost use Rattle.flat.specs.Replies.{replyOf, replyTo, putTo};
-use collector::Collector;
 use flat::DueNumbers;
 use flat::FlatState;
 use flat::Reply;
@@ -32,8 +31,8 @@ use table::Entry;
 pub extern "C" fn paviluko_load(x: Vault, key: &[u8]) -> Reply
     ensures { λ r. ⌜ r ≡ replyOf (load x (now (key .entry))) ⌝ }
 {
-    let h = Collector::load(x, key);
-    flat::reply_of(h)
+    let a = loading::load(x, key);
+    flat::reply_of(a)
 }
 
 // Accept: a transaction is held under the next number of its lane. Names the store of W. Refuses with 1 and 4 to 8.
@@ -51,9 +50,8 @@ pub extern "C" fn paviluko_accept(
         return flat::not_a_state(s);
     }
     let state = flat::thaw(s);
-    let c = Collector { state };
-    let h = c.accept(transaction, lane, position);
-    flat::reply_of(h)
+    let a = accepting::accept(state, transaction, lane, position);
+    flat::reply_of(a)
 }
 
 // Seal: the record of the transaction held, at the start of out. Names the record's store. Refuses with 1 and 3.
@@ -67,9 +65,8 @@ pub extern "C" fn paviluko_seal(s: FlatState, out: &mut [u8]) -> Reply
         return flat::not_a_state(s);
     }
     let state = flat::thaw(s);
-    let c = Collector { state };
-    let h = c.seal(out);
-    flat::reply_of(h)
+    let a = accepting::seal(state, out);
+    flat::reply_of(a)
 }
 
 // Commit: the bytes of a record, from the card, make its transaction visible. Names the store of V. Refuses with 1, 9, 10
@@ -83,9 +80,8 @@ pub extern "C" fn paviluko_commit(s: FlatState, bytes: &[u8]) -> Reply
         return flat::not_a_state(s);
     }
     let state = flat::thaw(s);
-    let c = Collector { state };
-    let h = c.commit(bytes);
-    flat::reply_of(h)
+    let a = committing::commit(state, bytes);
+    flat::reply_of(a)
 }
 
 // Point: a position below which every accepted record is visible. Names no store. Refuses with 1, 6, 7 and 15.
@@ -98,9 +94,8 @@ pub extern "C" fn paviluko_point(s: FlatState, position: u64) -> Reply
         return flat::not_a_state(s);
     }
     let state = flat::thaw(s);
-    let c = Collector { state };
-    let h = c.point(position);
-    flat::reply_of(h)
+    let a = pointing::point(state, position);
+    flat::reply_of(a)
 }
 
 // Checkpoint, in three calls: the store of N, the file at the start of out, the store of S. Refuses with 1, 3 and 8.
@@ -114,9 +109,8 @@ pub extern "C" fn paviluko_checkpoint(s: FlatState, out: &mut [u8]) -> Reply
         return flat::not_a_state(s);
     }
     let state = flat::thaw(s);
-    let c = Collector { state };
-    let h = c.checkpoint(out);
-    flat::reply_of(h)
+    let a = checkpointing::checkpoint(state, out);
+    flat::reply_of(a)
 }
 
 // Truncate at a covered point, in nine calls: the stores of R of lanes 0 to 7, and the deletion. Refuses with 1 and 14.
@@ -129,9 +123,8 @@ pub extern "C" fn paviluko_truncate(s: FlatState, position: u64) -> Reply
         return flat::not_a_state(s);
     }
     let state = flat::thaw(s);
-    let c = Collector { state };
-    let h = c.truncate(position);
-    flat::reply_of(h)
+    let a = truncating::truncate(state, position);
+    flat::reply_of(a)
 }
 
 // Recover, in 15 or 24 calls: the first reads checkpoint and log, and names the first store; the others name the other
@@ -151,9 +144,8 @@ pub extern "C" fn paviluko_recover(
         return flat::not_a_state(s);
     }
     let state = flat::thaw(s);
-    let c = Collector { state };
-    let h = c.recover(checkpoint, log, out);
-    flat::reply_of(h)
+    let a = recovering::recover(state, checkpoint, log, out);
+    flat::reply_of(a)
 }
 
 // ---- for a host and a screen

@@ -7,7 +7,7 @@ use Rattle.flat.proofs.reply_of.Tie as tie
 
 returns : tie.Need-returns
 unfolding replyOf shownAs
-returns c = rw (c .freeze .ensures, c .before .before .said-of .ensures)
+returns c = rw (c .freeze .ensures, c .before .said-of .ensures)
 
 pub reply-of-spec : {M : Type 1} → statement M
 reply-of-spec = tie.close (tie.spec (λ c κs. search needs) (λ c κs. search needs) returns)

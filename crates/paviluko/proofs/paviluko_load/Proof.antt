@@ -1,4 +1,4 @@
--- `paviluko::paviluko_load` meets its contract: the answer of the collector's method is carried over the boundary. Assumes nothing.
+-- `paviluko::paviluko_load` meets its contract: the operation's answer is carried over the boundary. Assumes nothing.
 use borrow.Author.Needs.{needs}
 use mathlib.Core.Path.{ap, _∙_}
 use Rattle.flat.specs.Replies.{replyOf}

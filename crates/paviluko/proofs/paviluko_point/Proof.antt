@@ -1,4 +1,4 @@
--- `paviluko::paviluko_point` meets its contract: the answer of the collector's method is carried over the boundary. Assumes nothing.
+-- `paviluko::paviluko_point` meets its contract: the operation's answer is carried over the boundary. Assumes nothing.
 use borrow.Author.Needs.{needs}
 use Rattle.protocol.specs.declared.State.{State}
 use Rattle.protocol.specs.Point.{point}
