@@ -7,9 +7,12 @@ pub struct Place(PathBuf);
 
 impl Place {
     pub fn new(name: &str) -> Place {
-        let memory = Path::new("/dev/shm");
-        let parent = if memory.is_dir() { memory.to_path_buf() } else { env::temp_dir() };
-        let folder = parent.join(format!("paviluko-{name}-{}", process::id()));
+        let name = format!("paviluko-{name}-{}", process::id());
+        let memory = Path::new("/dev/shm").join(&name);
+        if fs::create_dir(&memory).is_ok() {
+            return Place(memory);
+        }
+        let folder = env::temp_dir().join(&name);
         fs::create_dir(&folder).expect("a folder for the test");
         Place(folder)
     }

@@ -89,17 +89,15 @@ struct Place {
 impl Place {
     /// The folder that was named, or one of its own, in memory where the machine has such a file system.
     fn new(dir: Option<&Path>) -> Result<Place, Fault> {
-        let own = || {
-            let memory = Path::new("/dev/shm");
-            let parent = if memory.is_dir() { memory.to_path_buf() } else { std::env::temp_dir() };
-            parent.join(format!("paviluko-demo-{}", std::process::id()))
+        let make = |folder: PathBuf, passing| match fs::create_dir(&folder) {
+            Ok(()) => Ok(Place { folder, passing }),
+            Err(error) => Err(Fault::unusable(&folder)(error)),
         };
-        let place = match dir {
-            Some(dir) => Place { folder: dir.to_path_buf(), passing: false },
-            None => Place { folder: own(), passing: true },
-        };
-        fs::create_dir(&place.folder).map_err(Fault::unusable(&place.folder))?;
-        Ok(place)
+        if let Some(dir) = dir {
+            return make(dir.to_path_buf(), false);
+        }
+        let name = format!("paviluko-demo-{}", std::process::id());
+        make(Path::new("/dev/shm").join(&name), true).or_else(|_| make(std::env::temp_dir().join(&name), true))
     }
 
     fn join(&self, name: &str) -> PathBuf {
