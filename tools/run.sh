@@ -19,7 +19,7 @@ outdated() {
 }
 
 need cargo 'install Rust 1.95 or newer'
-need cc 'install a C compiler, which Rust links with (Debian: gcc libc6-dev)'
+command -v cc >/dev/null 2>&1 || sh tests/cipher/packages.sh gcc libc6-dev
 
 if [ -z "${PAVILUKO_LIB:-}" ] && outdated; then
     need rt 'install the Rattle kit'
