@@ -202,14 +202,7 @@ impl Device for Library {
         };
         // What the library says of its state is what stands there; the table is asked for a meter at a time.
         let s = collector.state();
-        let asked = collector.reading(self.meter).map(|reading| ffi::Entry {
-            stamp: reading.stamp,
-            number: reading.number,
-            reading: reading.reading,
-            code: reading.code,
-            lane: reading.lane,
-            present: 1,
-        });
+        let asked = collector.reading(self.meter).map(ffi::Entry::from);
         let agrees = collector.numbers() == s.vault
             && collector.records() == s.journal.count as u64
             && collector.points() == s.points.count as u64

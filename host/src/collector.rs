@@ -209,6 +209,20 @@ pub struct Reading {
     pub reading: i32,
 }
 
+/// As it stands in a state's table.
+impl From<Reading> for ffi::Entry {
+    fn from(reading: Reading) -> ffi::Entry {
+        ffi::Entry {
+            stamp: reading.stamp,
+            number: reading.number,
+            reading: reading.reading,
+            code: reading.code,
+            lane: reading.lane,
+            present: 1,
+        }
+    }
+}
+
 /// A collector: the state that the library last returned.
 #[derive(Clone, Debug)]
 pub struct Collector {

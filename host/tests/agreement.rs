@@ -29,17 +29,7 @@ fn agrees(collector: &Collector) {
         let entry = &state.table.entries[meter];
         match collector.reading(meter as u8) {
             None => assert_eq!(*entry, ffi::Entry::default()),
-            Some(reading) => {
-                let there = ffi::Entry {
-                    stamp: reading.stamp,
-                    number: reading.number,
-                    reading: reading.reading,
-                    code: reading.code,
-                    lane: reading.lane,
-                    present: 1,
-                };
-                assert_eq!(*entry, there);
-            }
+            Some(reading) => assert_eq!(*entry, ffi::Entry::from(reading)),
         }
     }
 }

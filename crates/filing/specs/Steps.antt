@@ -1,5 +1,5 @@
 -- The three steps of a checkpoint (01, Operations: "stores N + 1, the file of the whole table with version S + 1 and the raised N as seal number,
--- then S + 1"), with the store that is due behind each. Checkpoint makes them once, Recover twice.
+-- then S + 1"), with the store that is due behind each.
 -- Assumes nothing.
 use Prim.Native.Nat.{ℕ, suc}
 use mathlib.Core.List.{[], _∷_}
