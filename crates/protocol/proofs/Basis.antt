@@ -11,10 +11,11 @@ use lib.ListN.{length}
 use Rattle.octets.specs.Lists.{at}
 use Rattle.reading.specs.Transaction.{legal}
 use Rattle.reading.proofs.TransactionLaws.{length-bounds}
-use Rattle.table.specs.Table.{lanes}
+use Rattle.table.specs.Table.{lanes, entered}
 use Rattle.table.specs.Written.{written}
 use Rattle.table.specs.Canonical.{CanonicalTable}
 use Rattle.table.specs.declared.Entry.{Entry}
+use Rattle.table.specs.declared.Table.{Table}
 use Rattle.sealed.specs.Aead.{aesGcm}
 use Rattle.sealed.specs.Record.{Opened, recordBytes, openRecord}
 use Rattle.sealed.specs.Checkpoint.{OpenedFile, fileBytes, openFile}
@@ -25,6 +26,10 @@ use Rattle.protocol.specs.Vaults.{counterMax}
 -- what a record writes to a meter, if it does
 abbrev pub write : Opened → ℕ → Option Entry
 write r m = written (r .text) (r .lane) (r .number) m
+
+-- the table after the transaction of a record
+abbrev pub withRecord : Table → Opened → Table
+withRecord t r = entered t (r .text) (r .lane) (r .number)
 
 -- a record that Seal can put out
 pub record Writable (r : Opened) : Type 0 where

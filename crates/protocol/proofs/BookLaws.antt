@@ -1,22 +1,23 @@
--- The book's table is, for each meter, the latest of all its writes in the book, whatever their order.
--- The table is the latest of the book in both halves (Latest.antt): what stands at a meter was written by a record of the book, and no write of
--- the book is later. Two books of the same records are one set, and the latest of one set is one table.
+-- A table that is the latest of the book in both halves (Latest.antt) has at each meter the latest of all writes to it: what stands there was
+-- written by a record of the book, and no write of the book is later. The latest write is one entry.
 -- Assumes nothing.
 use Prim.Native.Nat.{ℕ, _<_}
-use mathlib.Core.Path.{_≡_, sym, ap}
-use mathlib.Core.List.{List, List·Memᴰ}
+use mathlib.Core.Path.{_≡_, sym, ap, _∙_}
+use mathlib.Core.List.{List}
 use mathlib.Core.Option.{none, some}
 use native.Mathlib.Omega.{arith}
 use lib.ListN.{getD}
 use Rattle.reading.specs.Transaction.{meters}
+use Rattle.table.specs.declared.Entry.{Entry}
 use Rattle.table.specs.declared.Table.{Table}
 use Rattle.table.specs.Table.{noEntry}
 use Rattle.table.specs.Canonical.{Canonical, absent, present}
+use Rattle.table.proofs.OrderLaws.{later-same}
+use Rattle.table.proofs.EnteredLaws.{written-times}
 use Rattle.sealed.specs.Record.{Opened}
-use Rattle.protocol.specs.Book.{bookTable}
 use Rattle.protocol.specs.LatestOf.{LatestOf, unwritten, writtenBy}
-use Rattle.protocol.proofs.Basis.{Writable}
-use Rattle.protocol.proofs.Latest.{entryFor, seen, seen-here, cell, In, Full, Single, sound-mono, cover-mono, book-full, full-book}
+use Rattle.protocol.proofs.Basis.{write}
+use Rattle.protocol.proofs.Latest.{entryFor, seen, seen-here, cell, In, Full, Single}
 
 -- the latest of a book has at each meter the latest write to it
 pub full-latest : (b : List Opened) (t : Table) → Full b t → (m : ℕ) → m < meters → LatestOf b m (getD (t .entries) m noEntry)
@@ -42,13 +43,15 @@ full-latest b t f m lt = go (f .canon .all .each m)
         let k : c .0 ≡ e = cc in
         rw k at (c .2))
 
--- so has the book's table
-pub book-latest : (b : List Opened) → ((r : Opened) → List·Memᴰ r b → Writable r) → (m : ℕ) → m < meters → LatestOf b m (getD (bookTable b .entries) m noEntry)
-book-latest b w m lt = full-latest b (bookTable b) (book-full b w) m lt
-
--- two books of the same records have one table, in whatever order the records stand
-pub any-order : (b d : List Opened) → ((r : Opened) → In b r → Writable r) → Single (In b) → ((r : Opened) → In b r → In d r) → ((r : Opened) → In d r → In b r)
-    → bookTable b ≡ bookTable d
-any-order b d w single i j =
-    let f = book-full d (λ r m. w r (j r m)) in
-    sym (full-book b (bookTable d) w single (record { sound = sound-mono j (f .sound); cover = cover-mono i (f .cover); canon = f .canon }))
+-- and that is one entry: of two neither is later than the other, so that lane and number agree, and these determine the record
+pub latest-one : (b : List Opened) → Single (In b) → (m : ℕ) (x y : Entry) → LatestOf b m x → LatestOf b m y → x ≡ y
+latest-one b single m x y (unwritten f p) (unwritten g q) = p ∙ sym q
+latest-one b single m x y (unwritten f p) (writtenBy r i w k) = absurd (f r y i w)
+latest-one b single m x y (writtenBy r i w k) (unwritten g q) = absurd (g r x i w)
+latest-one b single m x y (writtenBy r i w k) (writtenBy s j v l) =
+    let o = later-same x y (l r x i w) (k s y j v) in
+    let wr = written-times (r .text) (r .lane) (r .number) m x w in
+    let ws = written-times (s .text) (s .lane) (s .number) m y v in
+    let e : r ≡ s = single r s i j (sym (wr .lane) ∙ o .lane ∙ ws .lane) (sym (wr .number) ∙ o .number ∙ ws .number) in
+    let z : some x ≡ some y = sym w ∙ ap (λ (k : Opened). write k m) e ∙ v in
+    cc

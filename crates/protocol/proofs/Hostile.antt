@@ -24,9 +24,8 @@ use Rattle.sealed.specs.Record.{Opened, wholeLen, openRecord}
 use Rattle.sealed.specs.Log.{recordAt}
 use Rattle.sealed.proofs.LogTrip.{at-opens}
 use Rattle.protocol.specs.declared.Vault.{Vault}
-use Rattle.protocol.specs.Book.{withRecord}
 use Rattle.protocol.specs.Replay.{Reading, Read, stopped, reading, passedOver, orStop, stepOpened, step, stepOn, steps, ended, replay}
-use Rattle.protocol.proofs.Basis.{Writable}
+use Rattle.protocol.proofs.Basis.{Writable, withRecord}
 use Rattle.protocol.proofs.Lanes.{Put, same, other, put}
 use Rattle.protocol.proofs.Latest.{In, Part, Full, Upto, Single, sound-enter, cover-enter, canon-enter, cover-mono}
 use Rattle.protocol.proofs.MissingLaws.{Reached, ends-reached}

@@ -41,7 +41,7 @@ covered-of (p ∷ ps) q m = go (List·Memᴰ·cases-cons m) (λ k. covered-of ps
     go (inl e) ih = (p, List·Memᴰ·head refl, ap (λ (x : Point). x .position) e, ap (λ (x : Point). x .counts) e)
     go (inr k) ih = let a = ih k in (a .0, List·Memᴰ·tail (a .1), a .2, a .3)
 
-cover-ascend : (ps : List Point) → Ascending ps → Ascending (map coveredPoint ps)
+pub cover-ascend : (ps : List Point) → Ascending ps → Ascending (map coveredPoint ps)
 unfolding coveredPoint
 cover-ascend [] a = tt
 cover-ascend (p ∷ ps) a = (λ q m. let x = covered-of ps q m in let y = a .0 (x .0) (x .1) in let z = x .2 in omega arith, cover-ascend ps (a .1))

@@ -5,7 +5,7 @@ use mathlib.Core.Path.{_≡_, refl, sym, ap, subst, _∙_}
 use mathlib.Core.Bool.{Bool, true, false, cond, not}
 use mathlib.Core.Option.{Option, none, some}
 use mathlib.Core.Logic.{_⊎_, inl, inr}
-use mathlib.Core.List.{List, [], _∷_, map, List·Memᴰ, List·Memᴰ·head, List·Memᴰ·tail, List·Memᴰ·not-nil, List·Memᴰ·cases-cons}
+use mathlib.Core.List.{List, [], _∷_, _++_, map, List·Memᴰ, List·Memᴰ·head, List·Memᴰ·tail, List·Memᴰ·not-nil, List·Memᴰ·cases-cons}
 use native.Mathlib.Omega.{arith}
 use native.Mathlib.Decide.{decLt}
 use lib.Dec.{leb, ltb, eqb}
@@ -67,7 +67,7 @@ above-all pos (p ∷ ps) h = go (above pos p ps) (above-all pos ps (λ q m. h q 
     go (kept e l) ih = e ∙ ap (λ (r : List Point). p ∷ r) ih
     go (gone e l) ih = let z = h p (List·Memᴰ·head refl) in absurd (omega arith)
 
-above-mem : (pos : ℕ) (ps : List Point) (q : Point) → List·Memᴰ q (pointsAbove pos ps) → List·Memᴰ q ps × (pos < q .position)
+pub above-mem : (pos : ℕ) (ps : List Point) (q : Point) → List·Memᴰ q (pointsAbove pos ps) → List·Memᴰ q ps × (pos < q .position)
 above-mem pos [] q m = absurd (List·Memᴰ·not-nil (rw above-nil at m))
 above-mem pos (p ∷ ps) q m = go (above pos p ps) (λ k. above-mem pos ps q k)
   where
@@ -78,6 +78,20 @@ above-mem pos (p ∷ ps) q m = go (above pos p ps) (λ k. above-mem pos ps q k)
     go : Above pos p ps → (List·Memᴰ q (pointsAbove pos ps) → List·Memᴰ q ps × (pos < q .position)) → List·Memᴰ q (p ∷ ps) × (pos < q .position)
     go (kept e l) ih = first l ih (List·Memᴰ·cases-cons (rw e at m))
     go (gone e l) ih = let a = ih (rw e at m) in (List·Memᴰ·tail (a .0), a .1)
+
+-- of points in order of position, those above one are the last
+pub above-last : (pos : ℕ) (ps : List Point) → Ascending ps → (older : List Point) × (ps ≡ older ++ pointsAbove pos ps) × ((q : Point) → List·Memᴰ q older → q .position ≤ pos)
+above-last pos [] a = ([], sym (above-nil pos), λ q m. absurd (List·Memᴰ·not-nil m))
+above-last pos (p ∷ ps) a = go (above pos p ps) (above-last pos ps (a .1))
+  where
+    go : Above pos p ps → (older : List Point) × (ps ≡ older ++ pointsAbove pos ps) × ((q : Point) → List·Memᴰ q older → q .position ≤ pos)
+        → (older : List Point) × (p ∷ ps ≡ older ++ pointsAbove pos (p ∷ ps)) × ((q : Point) → List·Memᴰ q older → q .position ≤ pos)
+    go (kept e h) ih = ([], sym (e ∙ ap (λ (r : List Point). p ∷ r) (above-all pos ps (λ q m. let l = a .0 q m in omega arith))), λ q m. absurd (List·Memᴰ·not-nil m))
+    go (gone e h) ih = (p ∷ ih .0, ap (λ (r : List Point). p ∷ r) (ih .1) ∙ ap (λ (r : List Point). p ∷ (ih .0 ++ r)) (sym e), λ q m. both q (List·Memᴰ·cases-cons m))
+      where
+        both : (q : Point) → (q ≡ p) ⊎ List·Memᴰ q (ih .0) → q .position ≤ pos
+        both q (inl z) = rw z h
+        both q (inr m) = ih .2 q m
 
 above-length : (pos : ℕ) (ps : List Point) → length (pointsAbove pos ps) ≤ length ps
 above-length pos [] = rw (above-nil pos) (omega arith)

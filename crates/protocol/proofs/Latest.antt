@@ -2,20 +2,18 @@
 -- a record of the set writes to a meter, the meter has a reading and the write is not later than it. The halves grow apart: a checkpoint, the
 -- reading of a log and a covered point are all sound for the whole book, and cover it up to some counts of each lane (Upto); the table of a
 -- collector in service covers all of it (Full).
--- A record that enters a table leaves the later of its write and what was there, so both halves stay and cover one record more. Two tables that
--- are the latest of one set are equal: at each meter neither of their two readings is later than the other, so lane and number agree, and the
--- two come from one record. The order of readings is used through its laws alone.
+-- A record that enters a table leaves the later of its write and what was there, so both halves stay and cover one record more. The order of
+-- readings is used through its laws alone.
 -- Assumes nothing.
 use Prim.Native.Nat.{ℕ, _≤_, _<_}
 use mathlib.Core.Path.{_≡_, refl, sym, ap, subst, _∙_}
 use mathlib.Core.Bool.{Bool, true, false, cond}
 use mathlib.Core.Option.{Option, none, some}
 use mathlib.Core.Logic.{_⊎_, inl, inr}
-use mathlib.Core.List.{List, [], _∷_, _++_, List·Memᴰ, List·Memᴰ·head, List·Memᴰ·tail, List·Memᴰ·not-nil, List·Memᴰ·append-cases, List·Memᴰ·eq-of-singleton, Memᴰ·append-left, Memᴰ·append-right, append-assoc, append-nil}
+use mathlib.Core.List.{List, [], _∷_, _++_, List·Memᴰ, List·Memᴰ·head, List·Memᴰ·tail, List·Memᴰ·not-nil, List·Memᴰ·append-cases, List·Memᴰ·eq-of-singleton, Memᴰ·append-left, Memᴰ·append-right}
 use native.Mathlib.Omega.{arith}
 use native.Mathlib.Decide.{decLt}
 use lib.ListN.{getD, set, length, List·getD-eq-default}
-use lib.Seq.{ext-getD}
 use Rattle.octets.specs.Lists.{at}
 use Rattle.reading.specs.Transaction.{meters}
 use Rattle.table.specs.declared.Entry.{Entry}
@@ -27,8 +25,7 @@ use Rattle.table.specs.Canonical.{Canonical, absent, present, CanonicalTable}
 use Rattle.table.proofs.OrderLaws.{later-irrefl, later-same, not-later-trans, latest-either, latest-absent, latest-top}
 use Rattle.table.proofs.EnteredLaws.{length-entered, entered-at, written-times, entered-canonical, empty-at, empty-canonical}
 use Rattle.sealed.specs.Record.{Opened}
-use Rattle.protocol.specs.Book.{withRecord, withRecords, bookTable}
-use Rattle.protocol.proofs.Basis.{write, Writable}
+use Rattle.protocol.proofs.Basis.{write, withRecord, Writable}
 use Rattle.protocol.proofs.Lanes.{Put, same, other, put}
 
 -- ---- one meter
@@ -181,64 +178,9 @@ sound-empty P = record { src = λ m e h. let n : cell emptyTable m ≡ none = ap
 cover-none : (t : Table) (P : Opened → Type 0) → ((r : Opened) → P r → ⊥) → Cover t P
 cover-none t P f = record { top = λ m r e lt p h. absurd (f r p) }
 
--- ---- the latest of a set is one table
-
 -- lane and number determine a record of the set
 abbrev pub Single : (Opened → Type 0) → Type 0
 Single P = (a b : Opened) → P a → P b → a .lane ≡ b .lane → a .number ≡ b .number → a ≡ b
-
--- two canonical entries of which the same is seen
-same-seen : (a b : Entry) → Canonical a → Canonical b → seen a ≡ seen b → a ≡ b
-same-seen a b (absent p) (absent q) e = p ∙ sym q
-same-seen a b (absent p) (present q) e =
-    let u : seen a ≡ none = ap seen p in
-    let v = seen-here b (q .here) in
-    let z : _≡_ {A = ℕ} 0 1 = cc in
-    absurd (omega arith)
-same-seen a b (present p) (absent q) e =
-    let u : seen b ≡ none = ap seen q in
-    let v = seen-here a (p .here) in
-    let z : _≡_ {A = ℕ} 0 1 = cc in
-    absurd (omega arith)
-same-seen a b (present p) (present q) e = seen-some a b (e ∙ seen-here b (q .here)) .0
-
--- two tables that are the latest of one set are equal
-latest-one : (t u : Table) (P : Opened → Type 0) → CanonicalTable t → CanonicalTable u → Single P → Sound t P → Cover t P → Sound u P → Cover u P → t ≡ u
-latest-one t u P ct cu single st vt su vu =
-    ap (λ (es : List Entry). record { entries = es })
-    (ext-getD noEntry (t .entries) (u .entries) (ct .long ∙ sym (cu .long))
-    (λ m lt. let n = ct .long in same-seen (entryFor t m) (entryFor u m) (ct .all .each m) (cu .all .each m) (go m (omega arith) (cell t m) (cell u m) refl refl)))
-  where
-    go : (m : ℕ) → m < meters → (a b : Option Entry) → cell t m ≡ a → cell u m ≡ b → cell t m ≡ cell u m
-    go m lt none none p q = p ∙ sym q
-    go m lt none (some b) p q =
-        let x = su .src m b q in
-        let y = vt .top m (x .0) b lt (x .1) (x .2) in
-        let y1 = y .1 in
-        let z : _≡_ {A = ℕ} 0 1 = cc in
-        absurd (omega arith)
-    go m lt (some a) none p q =
-        let x = st .src m a p in
-        let y = vu .top m (x .0) a lt (x .1) (x .2) in
-        let y1 = y .1 in
-        let z : _≡_ {A = ℕ} 0 1 = cc in
-        absurd (omega arith)
-    go m lt (some a) (some b) p q =
-        let x = st .src m a p in
-        let y = su .src m b q in
-        let xu = vu .top m (x .0) a lt (x .1) (x .2) in
-        let yt = vt .top m (y .0) b lt (y .1) (y .2) in
-        let xu1 = xu .1 in
-        let yt1 = yt .1 in
-        let i : xu .0 ≡ b = cc in
-        let j : yt .0 ≡ a = cc in
-        let ab : Le a b = rw i at (xu .2) in
-        let ba : Le b a = rw j at (yt .2) in
-        let s = later-same a b ab ba in
-        let wx = written-times (x .0 .text) (x .0 .lane) (x .0 .number) m a (x .2) in
-        let wy = written-times (y .0 .text) (y .0 .lane) (y .0 .number) m b (y .2) in
-        let r : x .0 ≡ y .0 = single (x .0) (y .0) (x .1) (y .1) (sym (wx .lane) ∙ s .lane ∙ wy .lane) (sym (wx .number) ∙ s .number ∙ wy .number) in
-        p ∙ sym (x .2) ∙ ap (λ (k : Opened). write k m) r ∙ y .2 ∙ sym q
 
 -- ---- the latest of a book
 
@@ -310,22 +252,3 @@ full-empty = record { sound = sound-empty (In []); cover = cover-none emptyTable
 -- up to any counts
 pub upto-empty : (c : List ℕ) → Upto [] c emptyTable
 upto-empty c = full-upto c full-empty
-
--- several records, one by one
-full-records : (b d : List Opened) (t : Table) → ((r : Opened) → In d r → Writable r) → Full b t → Full (b ++ d) (withRecords t d)
-unfolding withRecords
-full-records b [] t w f = subst (λ (l : List Opened). Full l t) (sym (append-nil b)) f
-full-records b (y ∷ ys) t w f =
-    subst (λ (l : List Opened). Full l (withRecords (withRecord t y) ys)) (append-assoc b (y ∷ []) ys)
-    (full-records (b ++ (y ∷ [])) ys (withRecord t y) (λ r m. w r (List·Memᴰ·tail m)) (full-add y (w y (List·Memᴰ·head refl)) f))
-
--- the book's table is the latest of the book
-pub book-full : (b : List Opened) → ((r : Opened) → In b r → Writable r) → Full b (bookTable b)
-unfolding bookTable
-book-full b w = full-records [] b emptyTable w full-empty
-
--- and nothing else is
-pub full-book : (b : List Opened) (t : Table) → ((r : Opened) → In b r → Writable r) → Single (In b) → Full b t → t ≡ bookTable b
-full-book b t w single f =
-    let g = book-full b w in
-    latest-one t (bookTable b) (In b) (f .canon) (g .canon) single (f .sound) (f .cover) (g .sound) (g .cover)

@@ -6,7 +6,7 @@
 -- a card that kept faith. SheetLaws: the bench sheet.
 -- Invariant: what holds of every list. StoreLaws: how each invariant takes each store. Listed, Phases: the state's lists, its phase.
 -- KeepRecover, KeepCold, KeepAccept, KeepPoint, KeepCheckpoint, KeepTruncate: each call keeps the invariants. Apart: bytes and what they hold.
--- Runs: every list keeps the invariants. Theorem: demand 3. WorkedLaws: of a worked list, an honest card is taken and hostile ones are refused.
+-- Runs: every list keeps the invariants. ServiceLaws: what 01 says of a collector in service, after any list. Theorem: demand 3. WorkedLaws: of a worked list, an honest card is taken and hostile ones are refused.
 pub mod BlankLaws
 pub mod RefusalLaws
 pub mod SaidLaws
@@ -34,5 +34,6 @@ pub mod KeepCheckpoint
 pub mod KeepTruncate
 pub mod Apart
 pub mod Runs
+pub mod ServiceLaws
 pub mod Theorem
 pub mod WorkedLaws

@@ -18,6 +18,7 @@ use Rattle.protocol.specs.Said.{Said, refused, taken, Answered}
 use Rattle.protocol.specs.Load.{load}
 use Rattle.protocol.specs.Recover.{recoverPhase, recover}
 use Rattle.protocol.specs.History.{Call, callLoad, callAccept, callSeal, callCommit, callPoint, callCheckpoint, callTruncate, callRecover, Event, call, cut, Lasting, World, newLasting, newWorld, settled, done, answerOf, firstAnswer, answer, addsOf, afterSaid, afterAnswer, next, run, isTaken, Honest, Premises}
+use Rattle.protocol.specs.Claim.{after, Listed}
 use Rattle.protocol.specs.declared.Vault.{Vault}
 use Rattle.protocol.specs.declared.State.{State}
 use Rattle.protocol.specs.declared.Phase.{Phase}
@@ -176,3 +177,7 @@ module _ (key : List ℕ) where
   unfolding run Premises
   run-invariant [] w i p = i
   run-invariant (e ∷ es) w i p = run-invariant es (next key w e) (next-invariant w e i (p .0)) (p .1)
+
+  -- what a list comes to, from a new vault
+  pub listed-invariant : (es : List Event) → Listed key es → Invariant key (after key es)
+  listed-invariant es p = run-invariant es newWorld new-invariant p

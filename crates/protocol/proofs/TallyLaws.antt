@@ -4,7 +4,7 @@
 -- Assumes nothing.
 use Prim.Native.Nat.{ℕ, zero, suc, _+_, _≤_, _<_}
 use mathlib.Core.Path.{_≡_, refl, sym, ap, ap₂, _∙_, subst}
-use mathlib.Core.Bool.{Bool, true, false, cond, _||_}
+use mathlib.Core.Bool.{Bool, true, false, cond, not, _||_}
 use mathlib.Core.List.{List, [], _∷_, _++_}
 use mathlib.Core.Option.{Option, some, none}
 use native.Mathlib.Omega.{arith}
@@ -13,20 +13,22 @@ use lib.ListN.{length}
 use borrow.Author.Tests.{ltb-false, leb-false, lt-leb, le-ltb, lt-ltb, eq-eqb, eqb-true, not-false}
 use Rattle.octets.specs.Lists.{at}
 use Rattle.octets.proofs.BoolLaws.{or-left, or-right}
-use Rattle.reading.proofs.EveryLaws.{and-true}
+use Rattle.reading.specs.Every.{allBelow}
+use Rattle.reading.proofs.EveryLaws.{and-true, all-at, all-of}
 use Rattle.table.specs.declared.Table.{Table}
 use Rattle.table.specs.Table.{lanes}
 use Rattle.table.proofs.OrderLaws.{clash}
-use Rattle.sealed.specs.Checkpoint.{fileLen, OpenedFile}
+use Rattle.sealed.specs.Aead.{aesGcm}
+use Rattle.sealed.specs.Checkpoint.{fileLen, fileBytes, OpenedFile}
 use Rattle.protocol.specs.Vaults.{counterMax, setV, setR, setE, setS, setN}
 use Rattle.protocol.specs.States.{listed, pointsMax, valid, isNothing, withVault, withPoints}
 use Rattle.protocol.specs.Said.{Answered, taking, refuse}
-use Rattle.protocol.specs.Checkpoint.{tableFile}
+use Rattle.protocol.specs.Checkpoint.{tableFile, checkpointed, checkpointDue, checkpoint}
 use Rattle.protocol.specs.Replay.{Read, stopped, reading}
 use Rattle.protocol.specs.Recover.{spent, recovered, recoverRead, recoverLog, recoverFile, recoverFrom, recoverFirst, afterVersion, allVisible, afterR, afterV, inService, recoverDue, recoverPhase, recover}
 use Rattle.protocol.specs.Truncate.{pointsOf, findPoint, droppedTo, afterTruncateR, truncateLane, uncovered, truncateFirst, truncateNext, truncateDue, truncate}
 use Rattle.protocol.specs.History.{isTaken}
-use Rattle.protocol.specs.Tally.{fromLane, eachLane, storeR, storeV, lastStores, recoveryStores, truncateStores, answers, lastState, named, namedBy, Names, Serves, Dropped}
+use Rattle.protocol.specs.Tally.{fromLane, eachLane, storeR, storeV, lastStores, recoveryStores, truncateStores, checkpointStores, answers, lastState, named, namedBy, putBy, Names, Serves, Otherwise}
 use Rattle.protocol.specs.declared.Vault.{Vault}
 use Rattle.protocol.specs.declared.State.{State}
 use Rattle.protocol.specs.declared.Point.{Point}
@@ -51,6 +53,10 @@ module _ (op : State → Answered) (Q : State → Type 0) where
     each = ap₂ (λ (a b : Answered). named (a .said) ∷ namedBy (answers op (length sts) (b .state))) e e ∙ ap (λ (os : List (Option Store)). some st ∷ os) (h .each);
     ends = subst (λ (a : Answered). Q (lastState op (length sts) (a .state))) (sym e) (h .ends);
   }
+
+-- what holds behind the last call may be said in other words
+pub names-to : {op : State → Answered} {c : State} {stores : List Store} {P Q : State → Type 0} → ((d : State) → P d → Q d) → Names op c stores P → Names op c stores Q
+names-to f n = record { each = n .each; ends = f _ (n .ends) }
 
 -- ---- recovery
 
@@ -97,12 +103,12 @@ first-taken c file log =
     through _ c 1 [] _ (λ v. through _ c 3 _ _ (λ l. through _ c 8 [] _ (λ s. from-taken c (and-true (valid c) (isNothing (c .due)) (not-false _ v) .0) s file log)))
 
 -- the counters that recovery raises have room
-record Left (x : Vault) : Type 0 where
-  s : x .s + 2 ≤ counterMax
-  n : x .n + 2 ≤ counterMax
-  e : x .e < counterMax
+pub record Left (x : Vault) : Type 0 where
+  pub s : x .s + 2 ≤ counterMax
+  pub n : x .n + 2 ≤ counterMax
+  pub e : x .e < counterMax
 
-left-of : (x : Vault) → spent x ≡ false → Left x
+pub left-of : (x : Vault) → spent x ≡ false → Left x
 unfolding spent
 left-of x h =
     let a = or-left (ltb counterMax (x .s + 2) || ltb counterMax (x .n + 2)) (leb counterMax (x .e)) h in
@@ -179,25 +185,25 @@ module _ (b : State) (listing : b .journal .count ≤ listed) (pointing : b .poi
       (names-v n (suc l) y (omega arith) (fine-v-w x f l))
 
   -- E + 1 and V = W where any W ≠ V; the log is emptied
-  names-last : (x : Vault) → VaultFine x → x .e < counterMax → Names op (going x (cond (allVisible x) D.RecoverEmpty D.RecoverEpoch)) (lastStores x) Serves
+  names-last : (x : Vault) → VaultFine x → x .e < counterMax → Names op (going x (cond (allVisible x) D.RecoverEmpty D.RecoverEpoch)) (lastStores (not (allVisible x)) x) Serves
   unfolding lastStores
   names-last x f h = by (allVisible x)
     where
-      by : (b : Bool) → Names op (going x (cond b D.RecoverEmpty D.RecoverEpoch)) (cond b [] (S.E (suc (x .e)) ∷ eachLane (storeV x)) ++ (S.Empty ∷ [])) Serves
+      by : (b : Bool) → Names op (going x (cond b D.RecoverEmpty D.RecoverEpoch)) (cond (not b) (S.E (suc (x .e)) ∷ eachLane (storeV x)) [] ++ (S.Empty ∷ [])) Serves
       by true = names-empty x f
       by false = names-more op Serves _ _ (S.E (suc (x .e))) [] _ (go-epoch x f h) (names-v 7 0 (setE x (suc (x .e))) refl (fine-e x f h))
 
   -- R = W for the lanes that are left, and what follows
-  names-r : (n l : ℕ) (x : Vault) → l + suc n ≡ lanes → VaultFine x → x .e < counterMax → Names op (going x (D.RecoverR l)) (fromLane (storeR x) l (suc n) ++ lastStores x) Serves
+  names-r : (n l : ℕ) (x : Vault) → l + suc n ≡ lanes → VaultFine x → x .e < counterMax → Names op (going x (D.RecoverR l)) (fromLane (storeR x) l (suc n) ++ lastStores (not (allVisible x)) x) Serves
   unfolding fromLane afterR allVisible lastStores
   names-r zero l x e f h =
       let y = setR x l (at (x .w) l) in
-      names-more op Serves _ (going y (cond (allVisible y) D.RecoverEmpty D.RecoverEpoch)) (storeR x l) [] (lastStores x)
+      names-more op Serves _ (going y (cond (allVisible y) D.RecoverEmpty D.RecoverEpoch)) (storeR x l) [] (lastStores (not (allVisible x)) x)
       (go-r x l f (omega arith) ∙ rw (le-ltb (suc l) lanes (omega arith)))
       (names-last y (fine-r-w x f l) h)
   names-r (suc n) l x e f h =
       let y = setR x l (at (x .w) l) in
-      names-more op Serves _ (going y (D.RecoverR (suc l))) (storeR x l) [] (fromLane (storeR x) (suc l) (suc n) ++ lastStores x)
+      names-more op Serves _ (going y (D.RecoverR (suc l))) (storeR x l) [] (fromLane (storeR x) (suc l) (suc n) ++ lastStores (not (allVisible x)) x)
       (go-r x l f (omega arith) ∙ rw (lt-ltb (suc l) lanes (omega arith)))
       (names-r n (suc l) y (omega arith) (fine-r-w x f l) h)
 
@@ -210,7 +216,7 @@ module _ (b : State) (listing : b .journal .count ≤ listed) (pointing : b .poi
   -- all that follows the first N
   names-rest : (x : Vault) → VaultFine x → x .s + 2 ≤ counterMax → x .n < counterMax → x .e < counterMax
       → Names op (going x (D.RecoverFile false))
-      (S.File ∷ S.S (suc (x .s)) ∷ S.N (suc (x .n)) ∷ S.File ∷ S.S (suc (suc (x .s))) ∷ (eachLane (storeR x) ++ lastStores x)) Serves
+      (S.File ∷ S.S (suc (x .s)) ∷ S.N (suc (x .n)) ∷ S.File ∷ S.S (suc (suc (x .s))) ∷ (eachLane (storeR x) ++ lastStores (not (allVisible x)) x)) Serves
   unfolding afterVersion lastStores allVisible
   names-rest x f hs hn he =
       let y = setS x (suc (x .s)) in
@@ -223,7 +229,7 @@ module _ (b : State) (listing : b .journal .count ≤ listed) (pointing : b .poi
       (names-r 7 0 (setS z (suc (suc (x .s)))) refl (fine-s z fz (omega arith)) he)))
 
 accepted-tally : (c : State) (file log : List ℕ) (room : ℕ) → fileLen ≤ room → StateFine c → Left (c .vault) → (t : Table)
-    → recover c file log room ≡ taking (recovered c t) (S.N (suc (c .vault .n))) [] → Names (λ d. recover d file log room) c (recoveryStores (c .vault)) Serves
+    → recover c file log room ≡ taking (recovered c t) (S.N (suc (c .vault .n))) [] → Names (λ d. recover d file log room) c (recoveryStores (not (allVisible (c .vault))) (c .vault)) Serves
 unfolding recoveryStores recovered lastStores allVisible
 accepted-tally c file log room long f l t e =
     let x = c .vault in
@@ -236,24 +242,47 @@ cold-first : (c : State) (file log : List ℕ) (room : ℕ) → c .phase ≡ F.C
 unfolding recover recoverPhase
 cold-first c file log room cold = rw cold
 
+-- every W is V, and one is not
+all-same : (x : Vault) → ((l : ℕ) → l < lanes → at (x .w) l ≡ at (x .v) l) → allVisible x ≡ true
+unfolding allVisible
+all-same x h = all-of _ lanes (λ l lt. eq-eqb (at (x .w) l) (at (x .v) l) (h l lt))
+
+one-differs : (x : Vault) (l : ℕ) → l < lanes → (at (x .w) l ≡ at (x .v) l → ⊥) → allVisible x ≡ false
+unfolding allVisible
+one-differs x l lt h = go (allBelow (λ i. eqb (at (x .w) i) (at (x .v) i)) lanes) refl
+  where
+    go : (b : Bool) → allBelow (λ i. eqb (at (x .w) i) (at (x .v) i)) lanes ≡ b → b ≡ false
+    go true e = absurd (h (eqb-true (at (x .w) l) (at (x .v) l) (all-at _ lanes e l lt)))
+    go false e = refl
+
 -- "Then the stores .. That makes 15 or 24. Then it is in service": where the first call is taken and the room is a file's, as many calls as the
 -- list has stores are all taken and name them in that order
 pub recovery-tally : (c : State) (file log : List ℕ) (room : ℕ) → c .phase ≡ F.Cold → isTaken (recover c file log room .said) ≡ true → fileLen ≤ room
-    → Names (λ d. recover d file log room) c (recoveryStores (c .vault)) Serves
+    → (((l : ℕ) → l < lanes → at (c .vault .w) l ≡ at (c .vault .v) l) → Names (λ d. recover d file log room) c (recoveryStores false (c .vault)) Serves)
+    × ((l : ℕ) → l < lanes → (at (c .vault .w) l ≡ at (c .vault .v) l → ⊥) → Names (λ d. recover d file log room) c (recoveryStores true (c .vault)) Serves)
 recovery-tally c file log room cold h long =
     let k = cold-first c file log room cold in
     let a = first-taken c file log (rw k at h) in
-    accepted-tally c file log room long (state-fine c (a .fine)) (left-of (c .vault) (a .left)) (a .table) (k ∙ a .is)
+    let t = accepted-tally c file log room long (state-fine c (a .fine)) (left-of (c .vault) (a .left)) (a .table) (k ∙ a .is) in (
+      λ e. subst (λ (b : Bool). Names (λ d. recover d file log room) c (recoveryStores (not b) (c .vault)) Serves) (all-same (c .vault) e) t,
+      λ l lt ne. subst (λ (b : Bool). Names (λ d. recover d file log room) c (recoveryStores (not b) (c .vault)) Serves) (one-differs (c .vault) l lt ne) t,
+    )
 
-pub recovery-15-or-24 : (x : Vault) → length (recoveryStores x) ≡ cond (allVisible x) 15 24
+pub recovery-15 : (x : Vault) → length (recoveryStores false x) ≡ 15
 unfolding recoveryStores lastStores fromLane
-recovery-15-or-24 x = by (allVisible x) refl
-  where
-    by : (b : Bool) → allVisible x ≡ b → length (recoveryStores x) ≡ cond (allVisible x) 15 24
-    by true e = rw e
-    by false e = rw e
+recovery-15 x = refl
+
+pub recovery-24 : (x : Vault) → length (recoveryStores true x) ≡ 24
+unfolding recoveryStores lastStores fromLane
+recovery-24 x = refl
 
 -- ---- truncation
+
+-- behind the deletion: the points above the position are left
+pub record Cut (c : State) (position : ℕ) (d : State) : Type 0 where
+  pub due : d .due ≡ D.Nothing
+  pub points : d .points ≡ droppedTo (c .points) position
+  pub rest : Otherwise c d
 
 -- the point that is found is at the position
 found-at : (position : ℕ) (ps : List Point) (p : Point) → findPoint position ps ≡ some p → p .position ≡ position
@@ -288,24 +317,24 @@ module _ (c : State) (position : ℕ) (p : Point) (found : findPoint position (p
   unfolding truncateDue truncateFirst uncovered truncateLane afterTruncateR refuse
   cut-first x f h = cuts x D.Nothing f ∙ rw (found, h)
 
-  names-delete : (x : Vault) → VaultFine x → Names cut (withVault c x (D.TruncateDelete position)) (S.Delete (p .position) ∷ []) (Dropped c position)
-  unfolding truncateDue refuse
+  names-delete : (x : Vault) → VaultFine x → Names cut (withVault c x (D.TruncateDelete position)) (S.Delete (p .position) ∷ []) (Cut c position)
+  unfolding truncateDue droppedTo refuse
   names-delete x f = rw (found-at position (pointsOf (c .points)) p found)
-      (names-more cut (Dropped c position) _ (withPoints (withVault c x D.Nothing) (droppedTo (c .points) position) D.Nothing) (S.Delete position) [] [] (cuts x (D.TruncateDelete position) f ∙ rw (eq-eqb position position refl))
-      (names-none cut (Dropped c position) _ (record { due = refl; points = refl })))
+      (names-more cut (Cut c position) _ (withPoints (withVault c x D.Nothing) (droppedTo (c .points) position) D.Nothing) (S.Delete position) [] [] (cuts x (D.TruncateDelete position) f ∙ rw (eq-eqb position position refl))
+      (names-none cut (Cut c position) _ (record { due = refl; points = refl; rest = record { phase = refl; table = refl; journal = refl; any = refl; newest = refl; held = refl; key = refl } })))
 
   -- R of the lanes that are left, and the deletion
   names-counts : (n l : ℕ) (x : Vault) → l + suc n ≡ lanes → VaultFine x → ((i : ℕ) → i < lanes → at (p .counts) i ≤ at (x .v) i)
-      → Names cut (withVault c x (D.TruncateR l position)) (fromLane storeCount l (suc n) ++ (S.Delete (p .position) ∷ [])) (Dropped c position)
+      → Names cut (withVault c x (D.TruncateR l position)) (fromLane storeCount l (suc n) ++ (S.Delete (p .position) ∷ [])) (Cut c position)
   unfolding fromLane afterTruncateR
   names-counts zero l x e f h =
       let y = setR x l (at (p .counts) l) in
-      names-more cut (Dropped c position) _ (withVault c y (D.TruncateDelete position)) (storeCount l) [] (S.Delete (p .position) ∷ [])
+      names-more cut (Cut c position) _ (withVault c y (D.TruncateDelete position)) (storeCount l) [] (S.Delete (p .position) ∷ [])
       (cut-r x l f (omega arith) ∙ rw (le-ltb (suc l) lanes (omega arith)))
       (names-delete y (fine-r-count x f l (at (p .counts) l) (h l (omega arith))))
   names-counts (suc n) l x e f h =
       let y = setR x l (at (p .counts) l) in
-      names-more cut (Dropped c position) _ (withVault c y (D.TruncateR (suc l) position)) (storeCount l) [] (fromLane storeCount (suc l) (suc n) ++ (S.Delete (p .position) ∷ []))
+      names-more cut (Cut c position) _ (withVault c y (D.TruncateR (suc l) position)) (storeCount l) [] (fromLane storeCount (suc l) (suc n) ++ (S.Delete (p .position) ∷ []))
       (cut-r x l f (omega arith) ∙ rw (lt-ltb (suc l) lanes (omega arith)))
       (names-counts n (suc l) y (omega arith) (fine-r-count x f l (at (p .counts) l) (h l (omega arith))) h)
 
@@ -313,16 +342,70 @@ module _ (c : State) (position : ℕ) (p : Point) (found : findPoint position (p
 -- covered point whose numbers are all visible
 pub truncate-tally : (c : State) (position : ℕ) (p : Point) → valid c ≡ true → c .phase ≡ F.Serving → c .due ≡ D.Nothing
     → findPoint position (pointsOf (c .points)) ≡ some p → p .covered ≡ true → ((l : ℕ) → l < lanes → at (p .counts) l ≤ at (c .vault .v) l)
-    → Names (λ d. truncate d position) c (truncateStores p) (Dropped c position)
+    → Names (λ d. truncate d position) c (truncateStores p) (Cut c position)
 unfolding truncateStores fromLane
 truncate-tally c position p ok serves idle found covered below =
     let f = state-fine c ok in
     let e : withVault c (c .vault) D.Nothing ≡ c = ap (λ (d : Due). withVault c (c .vault) d) (sym idle) in
     let x = setR (c .vault) 0 (at (p .counts) 0) in
-    names-more (λ d. truncate d position) (Dropped c position) c (withVault c x (D.TruncateR 1 position)) (S.R 0 (at (p .counts) 0)) [] _
+    names-more (λ d. truncate d position) (Cut c position) c (withVault c x (D.TruncateR 1 position)) (S.R 0 (at (p .counts) 0)) [] _
     (ap (λ (d : State). truncate d position) (sym e) ∙ cut-first c position p found serves (f .listed) (f .pointed) (c .vault) (f .vault) covered)
     (names-counts c position p found serves (f .listed) (f .pointed) 6 1 x refl (fine-r-count (c .vault) (f .vault) 0 (at (p .counts) 0) (below 0 (omega arith))) below)
 
 pub truncate-9 : (p : Point) → length (truncateStores p) ≡ 9
 unfolding truncateStores fromLane
 truncate-9 p = refl
+
+-- ---- a checkpoint
+
+module _ (c : State) (serves : c .phase ≡ F.Serving) (fine : StateFine c) (room : ℕ) (long : fileLen ≤ room) where
+  -- a call is decided by the store that is due
+  files : (x : Vault) (d : Due) → VaultFine x → checkpoint (withVault c x d) room ≡ checkpointDue (withVault c x d) room d
+  unfolding checkpoint refuse
+  files x d f = rw (fine-state (withVault c x d) (record { vault = f; listed = fine .listed; pointed = fine .pointed }), serves)
+
+  file-number : (x : Vault) → VaultFine x → x .s < counterMax → x .n < counterMax → checkpoint (withVault c x D.Nothing) room ≡ taking (withVault c (setN x (suc (x .n))) D.File) (S.N (suc (x .n))) []
+  unfolding checkpointDue refuse
+  file-number x f hs hn = files x D.Nothing f ∙ rw (lt-leb counterMax (x .s) hs, lt-leb counterMax (x .n) hn)
+
+  file-bytes : (x : Vault) → VaultFine x → x .s < counterMax → checkpoint (withVault c x D.File) room ≡ taking (withVault c x D.Version) S.File (tableFile (withVault c x D.File))
+  unfolding checkpointDue refuse
+  file-bytes x f hs = files x D.File f ∙ rw (lt-leb counterMax (x .s) hs, le-ltb room fileLen long)
+
+  file-version : (x : Vault) → VaultFine x → x .s < counterMax → checkpoint (withVault c x D.Version) room ≡ taking (checkpointed (withVault c x D.Version)) (S.S (suc (x .s))) []
+  unfolding checkpointDue refuse
+  file-version x f hs = files x D.Version f ∙ rw (lt-leb counterMax (x .s) hs)
+
+  -- "stores N + 1, the file of the whole table with version S + 1 and the raised N as seal number, then S + 1": the three states, one behind the other
+  pub record Three : Type 0 where
+    pub first : checkpoint c room ≡ taking (withVault c (setN (c .vault) (suc (c .vault .n))) D.File) (S.N (suc (c .vault .n))) []
+    pub second : checkpoint (withVault c (setN (c .vault) (suc (c .vault .n))) D.File) room
+        ≡ taking (withVault c (setN (c .vault) (suc (c .vault .n))) D.Version) S.File (fileBytes (aesGcm (c .key)) (suc (c .vault .s)) (suc (c .vault .n)) (c .table))
+    pub third : checkpoint (withVault c (setN (c .vault) (suc (c .vault .n))) D.Version) room
+        ≡ taking (checkpointed (withVault c (setN (c .vault) (suc (c .vault .n))) D.Version)) (S.S (suc (c .vault .s))) []
+
+  pub checkpoint-three : c .due ≡ D.Nothing → c .vault .s < counterMax → c .vault .n < counterMax → Three
+  unfolding tableFile
+  checkpoint-three idle hs hn =
+      let y = setN (c .vault) (suc (c .vault .n)) in
+      let fy = fine-n (c .vault) (fine .vault) hn in
+      let e : withVault c (c .vault) D.Nothing ≡ c = ap (λ (d : Due). withVault c (c .vault) d) (sym idle) in
+      record {
+        first = ap (λ (d : State). checkpoint d room) (sym e) ∙ file-number (c .vault) (fine .vault) hs hn;
+        second = file-bytes y fy hs;
+        third = file-version y fy hs;
+      }
+
+  -- where what follows it holds of the state behind it
+  pub checkpoint-tally : (Q : State → Type 0) → Three → Q (checkpointed (withVault c (setN (c .vault) (suc (c .vault .n))) D.Version))
+      → Names (λ d. checkpoint d room) c (checkpointStores (c .vault)) Q
+      × (putBy (answers (λ d. checkpoint d room) 3 c) ≡ [] ∷ fileBytes (aesGcm (c .key)) (suc (c .vault .s)) (suc (c .vault .n)) (c .table) ∷ [] ∷ [])
+  unfolding checkpointStores answers
+  checkpoint-tally Q t q =
+      let op : State → Answered = λ d. checkpoint d room in (
+        names-more op Q c _ (S.N (suc (c .vault .n))) [] _ (t .first)
+            (names-more op Q _ _ S.File _ _ (t .second)
+            (names-more op Q _ _ (S.S (suc (c .vault .s))) [] [] (t .third)
+            (names-none op Q _ q))),
+        rw (t .first, t .second, t .third),
+      )

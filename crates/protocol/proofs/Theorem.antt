@@ -1,6 +1,6 @@
 -- Demand 3: since every list keeps the invariants, the table of an accepted recovery is the book's, and a faithful card is taken.
 -- Assumes nothing.
-use Prim.Native.Nat.{ℕ, zero, suc, _-_, _≤_}
+use Prim.Native.Nat.{ℕ, zero, suc, _+_, _-_, _≤_}
 use mathlib.Core.Path.{_≡_, refl, sym, ap, ap₂, subst, subst₂, _∙_}
 use mathlib.Core.Bool.{Bool, true, false, cond, not, _&&_}
 use mathlib.Core.Option.{Option, none, some}
@@ -8,26 +8,25 @@ use mathlib.Core.List.{List, [], _∷_, List·Memᴰ}
 use native.Mathlib.Omega.{arith}
 use lib.Dec.{eqb}
 use lib.ListN.{getD, length, length-map}
-use borrow.Author.Tests.{le-leb, le-ltb, eq-eqb, ne-eqb}
+use borrow.Author.Tests.{le-leb, lt-leb, le-ltb, eq-eqb, ne-eqb}
 use Rattle.reading.proofs.EveryLaws.{and-both}
 use Rattle.table.specs.Table.{lanes, noEntry, emptyTable}
 use Rattle.table.proofs.OrderLaws.{clash}
 use Rattle.table.specs.declared.Table.{Table}
 use Rattle.sealed.specs.Aead.{aesGcm}
 use Rattle.sealed.specs.Record.{Opened}
-use Rattle.sealed.specs.Checkpoint.{OpenedFile, versionOf, openFile}
+use Rattle.sealed.specs.Checkpoint.{OpenedFile, fileBytes, versionOf, openFile}
 use Rattle.sealed.proofs.LogTrip.{version-is}
-use Rattle.protocol.specs.Vaults.{vaultOk}
+use Rattle.protocol.specs.Vaults.{counterMax, vaultOk}
 use Rattle.protocol.specs.States.{listed, pointsMax, valid, isNothing}
 use Rattle.protocol.specs.Said.{Said, refused, taken, Answered, refuse, taking}
 use Rattle.protocol.specs.Load.{keyLen, loaded, load}
 use Rattle.protocol.specs.Truncate.{pointsOf}
 use Rattle.protocol.specs.Replay.{Read, stopped, reading}
 use Rattle.protocol.specs.Recover.{logMax, spent, recovered, recoverRead, recoverLog, recoverFile, otherVersion, recoverFrom, recoverFirst, recoverDue, recoverPhase, recover, inService}
-use Rattle.protocol.specs.Book.{bookTable}
 use Rattle.protocol.specs.LatestOf.{LatestOf}
 use Rattle.protocol.specs.History.{Event, call, callRecover, World, newWorld, Lasting, settled, done, bookAfter, afterSaid, afterAnswer, answer, answerOf, addsOf, next, isTaken, faithfulLog, FaithfulFile}
-use Rattle.protocol.specs.Claim.{NotLower, longestLog, after, Listed, TableIsTheBooks, FaithfulCardIsTaken, LoadIsTaken, CardHasAFile, BookIsLatest, LogIsShort, NoStoreLowers, TruncatesNine, Beside, Demand3}
+use Rattle.protocol.specs.Claim.{NotLower, longestLog, Unspent, TakenUnlessSpent, HasLatest, after, Listed, TableIsTheBooks, LatestIsOne, FaithfulCardIsTaken, LoadIsTaken, CardHasAFile, LogIsShort, NoStoreLowers, Beside, Demand3}
 use Rattle.protocol.specs.declared.Vault.{Vault}
 use Rattle.protocol.specs.declared.State.{State}
 use Rattle.protocol.specs.declared.Phase.{Phase}
@@ -35,18 +34,18 @@ use Rattle.protocol.specs.declared.Phase.the-variants as F
 use Rattle.protocol.specs.declared.Due.{Due}
 use Rattle.protocol.specs.declared.Due.the-variants as D
 use Rattle.protocol.specs.declared.Store.the-variants as S
-use Rattle.protocol.proofs.VaultLaws.{vault-fine, fine-vault, fine-state}
+use Rattle.protocol.proofs.VaultLaws.{vault-fine, fine-vault, state-fine, fine-state}
 use Rattle.protocol.proofs.Basis.{Writable, fileOf, file-opens}
-use Rattle.protocol.proofs.Latest.{In, Full, full-book}
-use Rattle.protocol.proofs.BookLaws.{book-latest}
+use Rattle.protocol.proofs.Latest.{In, Full}
+use Rattle.protocol.proofs.BookLaws.{full-latest, latest-one}
 use Rattle.protocol.proofs.LaidLaws.{laidOut, laid-length}
 use Rattle.protocol.proofs.Card.{Spot, recsOf, mem-recs}
 use Rattle.protocol.proofs.Faith.{read-faithful}
 use Rattle.protocol.proofs.Invariant.{Durable, vaultTo, Durably, Cold, Service, LinkedAt, Linked, LinkedIf, Apart, Invariant, GoodSaid, known, At}
-use Rattle.protocol.proofs.KeepTruncate.{found-in}
-use Rattle.protocol.proofs.TallyLaws.{truncate-tally}
+use Rattle.protocol.proofs.TallyLaws.{left-of, recovery-tally}
+use Rattle.protocol.proofs.ServiceLaws.{vault-ok, nine, three}
 use Rattle.protocol.proofs.Apart.{mem-map, map-mem, faithful-log}
-use Rattle.protocol.proofs.Runs.{trusted, GoodIf, keep-answer, new-invariant, run-invariant, next-invariant}
+use Rattle.protocol.proofs.Runs.{trusted, GoodIf, keep-answer, next-invariant, listed-invariant}
 
 -- ---- an accepted Recover call leaves no cold state
 
@@ -116,26 +115,13 @@ warm : (c : State) (file log : List ℕ) (room : ℕ) → Warm (recover c file l
 unfolding recover
 warm c file log room = warm-phase c file log room (c .phase) refl
 
--- ---- Load's rule
-
-vault-ok : (d : Durable) → Durably d → vaultOk (d .vault) ≡ true
-vault-ok d i = fine-vault (d .vault) (record { e = i .nums .e≤; s = i .nums .s≤; n = i .nums .n≤; lane = λ l h. i .lanes .lane l })
-
 module _ (key : List ℕ) where
-  -- what every list comes to
-  listed-invariant : (es : List Event) → Listed key es → Invariant key (after key es)
-  listed-invariant es p = run-invariant key es newWorld (new-invariant key) p
-
   -- ---- the table
 
   warm-table : (c : State) (d : Durable) (ph : Phase) → (ph ≡ F.Cold → ⊥) → LinkedAt key c d ph (c .due) → Full (d .book) (c .table)
   warm-table c d F.Cold h k = absurd (h refl)
   warm-table c d F.Recovering h k = k .table
   warm-table c d F.Serving h k = k .table
-
-  -- a table that has the whole book is the book's
-  books-table : (d : Durable) (t : Table) → Durably d → Full (d .book) t → t ≡ bookTable (d .book)
-  books-table d t i f = full-book (d .book) t (λ r m. i .sealed .fine r (i .book .known r m)) (λ a b m n. i .sealed .single a b (i .book .known a m) (i .book .known b n)) f
 
   -- what a Recover call leaves
   after-recover : (w : World) (c : State) (file log : List ℕ) (room : ℕ) → w .state ≡ some c
@@ -144,7 +130,7 @@ module _ (key : List ℕ) where
   after-recover w c file log room q = ap (λ (s : Option State). afterAnswer (settled w) s none (answer s (callRecover file log room))) q
 
   abbrev HasBooks : World → Type 0
-  HasBooks w = (d : State) × (w .state ≡ some d) × (d .table ≡ bookTable (w .lasting .book))
+  HasBooks w = (d : State) × (w .state ≡ some d) × HasLatest (w .lasting .book) (d .table)
 
   safe-said : (sa : Said) (a : Lasting) (s : Option State) (c : State) (put : List ℕ) → WarmSaid sa c → isTaken sa ≡ true → Invariant key (afterSaid sa a s none c put) → HasBooks (afterSaid sa a s none c put)
   unfolding afterSaid isTaken done bookAfter
@@ -152,13 +138,13 @@ module _ (key : List ℕ) where
   safe-said (taken st n) a s c put h e i =
       let d = i .after in
       let f = warm-table c d (c .phase) h (i .link .rest) in
-      (c, refl, books-table d (c .table) (i .then) f ∙ ap bookTable (sym (i .apart′ .book)))
+      (c, refl, subst (λ (x : List Opened). HasLatest x (c .table)) (sym (i .apart′ .book)) (record { long = f .canon .long; each = full-latest (d .book) (c .table) f }))
 
   pub safe : TableIsTheBooks key
   safe es p c q file log room h yea =
       let w = after key es in
       let e = after-recover w c file log room q in
-      let i = next-invariant key w (call (callRecover file log room)) (listed-invariant es p) h in
+      let i = next-invariant key w (call (callRecover file log room)) (listed-invariant key es p) h in
       subst HasBooks (sym e) (safe-said (recover c file log room .said) (settled w) (some c) (recover c file log room .state) (recover c file log room .put) (warm c file log room) yea (subst (Invariant key) e i))
 
   -- ---- the faithful card
@@ -232,10 +218,26 @@ module _ (key : List ℕ) where
       subst (λ (x : Vault). recoverPhase c file (faithfulLog (a .card)) room (c .phase) .said ≡ cond (spent x) (refused 8 []) (taken (S.N (suc (x .n))) 0)) (sym sa)
       (ap₂ (λ (ph : Phase) (log : List ℕ). recoverPhase c file log room ph .said) e lo ∙ live-cold c d a file room i′ co h (subst (λ (x : Vault). FaithfulFile (x .s) (a .card) file) sa f))
 
+  -- 01's bounds are those that Recover tests
+  unspent : (x : Vault) → Unspent x → spent x ≡ false
+  unfolding spent
+  unspent x u =
+      rw (le-ltb counterMax (x .s + 2) (let z = u .s in omega arith), le-ltb counterMax (x .n + 2) (let z = u .n in omega arith), lt-leb counterMax (x .e) (let z = u .e in omega arith))
+
+  is-spent : (x : Vault) → (Unspent x → ⊥) → spent x ≡ true
+  is-spent x h = go (spent x) refl
+    where
+      go : (b : Bool) → spent x ≡ b → spent x ≡ true
+      go true e = e
+      go false e = let l = left-of x e in absurd (h (record { s = let z = l .s in omega arith; n = let z = l .n in omega arith; e = let z = l .e in omega arith }))
+
+  unless-spent : (x : Vault) (said : Said) → said ≡ cond (spent x) (refused 8 []) (taken (S.N (suc (x .n))) 0) → TakenUnlessSpent x said
+  unless-spent x said e = record { takes = λ u. e ∙ rw (unspent x u); spent = λ h. e ∙ rw (is-spent x h) }
+
   pub live : FaithfulCardIsTaken key
   live es p c q e file room f =
-      let i = listed-invariant es p in
-      live-at c (i .after) (settled (after key es)) file room e (i .then) (subst (λ (s : Option State). LinkedIf key s (i .after)) q (i .link)) (i .apart′) f
+      let i = listed-invariant key es p in
+      unless-spent _ _ (live-at c (i .after) (settled (after key es)) file room e (i .then) (subst (λ (s : Option State). LinkedIf key s (i .after)) q (i .link)) (i .apart′) f)
 
   -- ---- Load, the file, the length
 
@@ -245,7 +247,7 @@ module _ (key : List ℕ) where
 
   pub loads : length key ≡ keyLen → LoadIsTaken key
   loads long es p =
-      let i = listed-invariant es p in
+      let i = listed-invariant key es p in
       load-at (settled (after key es) .vault) long (ap vaultOk (i .apart′ .vault) ∙ vault-ok (i .after) (i .then))
 
   has-file : (s : ℕ) (d : Durable) (a : Lasting) → d .vault .s ≡ s → Durably d → Apart key a d → (file : List ℕ) × FaithfulFile s (a .card) file
@@ -263,17 +265,18 @@ module _ (key : List ℕ) where
       )
 
   pub files : CardHasAFile key
-  files es p = let i = listed-invariant es p in has-file (settled (after key es) .vault .s) (i .after) (settled (after key es)) (ap (λ (x : Vault). x .s) (sym (i .apart′ .vault))) (i .then) (i .apart′)
+  files es p = let i = listed-invariant key es p in has-file (settled (after key es) .vault .s) (i .after) (settled (after key es)) (ap (λ (x : Vault). x .s) (sym (i .apart′ .vault))) (i .then) (i .apart′)
 
-  pub latest : BookIsLatest key
-  latest es p m h =
-      let i = listed-invariant es p in
+  pub one : LatestIsOne key
+  one es p m x y =
+      let i = listed-invariant key es p in
       let d = i .after in
-      subst (λ (b : List Opened). LatestOf b m (getD (bookTable b .entries) m noEntry)) (sym (i .apart′ .book)) (book-latest (d .book) (λ r k. i .then .sealed .fine r (i .then .book .known r k)) m h)
+      subst (λ (b : List Opened). LatestOf b m x → LatestOf b m y → x ≡ y) (sym (i .apart′ .book))
+      (latest-one (d .book) (λ r s j k. i .then .sealed .single r s (i .then .book .known r j) (i .then .book .known s k)) m x y)
 
   pub short : LogIsShort key
   short es p =
-      let i = listed-invariant es p in
+      let i = listed-invariant key es p in
       subst (λ (x : List ℕ). length x ≤ longestLog) (sym (faithful-log key (settled (after key es)) (i .after) (i .apart′) (i .then .card .rising))) (log-short (i .after) (i .then))
 
   -- ---- no store lowers a vault number
@@ -292,25 +295,10 @@ module _ (key : List ℕ) where
   unfolding next
   rises es p k h =
       let w = after key es in
-      let i = listed-invariant es p in
+      let i = listed-invariant key es p in
       let d = i .after in
       subst (λ (x : Vault). NotLower x (afterAnswer (settled w) (w .state) (addsOf key k) (answer (w .state) k) .pending .store)) (sym (i .apart′ .vault))
       (answer-rises (settled w) (w .state) (addsOf key k) (answer (w .state) k) d (keep-answer key (w .state) k d (i .then) (i .link) (trusted key w d k (i .apart′) h)))
-
-  -- ---- Truncate's stores
-
-  -- a state in service is one that may be handed
-  service-valid : (c : State) (d : Durable) → Durably d → c .vault ≡ d .vault → Service key c d D.Nothing → valid c ≡ true
-  service-valid c d i same s = fine-state c (record { vault = vault-fine (c .vault) (ap vaultOk same ∙ vault-ok d i); listed = s .arrays .fewer; pointed = s .arrays .eighth })
-
-  pub nine : TruncatesNine key
-  nine es p c q ph du position x f cv =
-      let i = listed-invariant es p in
-      let d = i .after in
-      let l : Linked key c d = subst (λ (s : Option State). LinkedIf key s d) q (i .link) in
-      let s : Service key c d D.Nothing = subst₂ (LinkedAt key c d) ph du (l .rest) in
-      let o = s .common .pointed x (found-in position (pointsOf (c .points)) x f .0) in
-      truncate-tally c position x (service-valid c d (i .then) (l .same) s) ph du f cv (λ k h. o .visible k)
 
 -- the longest log, in figures
 pub longest-is : longestLog ≡ 202752
@@ -319,7 +307,7 @@ longest-is = refl
 -- ---- DEMAND 3
 
 pub demand-3 : Demand3
-demand-3 key long = record { table-is-the-books = safe key; faithful-card-is-taken = live key; load-is-taken = loads key long; card-has-a-file = files key }
+demand-3 key long = record { table-is-the-books = safe key; latest-is-one = one key; faithful-card-is-taken = live key; load-is-taken = loads key long; card-has-a-file = files key }
 
 pub beside : (key : List ℕ) → Beside key
-beside key = record { book-is-latest = latest key; log-is-short = short key; no-store-lowers = rises key; truncates-nine = nine key }
+beside key = record { log-is-short = short key; no-store-lowers = rises key; recovers = recovery-tally; truncates-nine = nine key; checkpoints-three = three key }

@@ -26,25 +26,28 @@ use Rattle.table.specs.Table.{lanes, noEntry, emptyTable, entryOf, entryAt, put
 use Rattle.table.proofs.EnteredLaws.{empty-canonical}
 use Rattle.sealed.specs.Aead.{aesGcm}
 use Rattle.sealed.specs.Record.{Opened, recordKind, wholeLen, openRecord}
-use Rattle.sealed.specs.Checkpoint.{OpenedFile, fileKind, legalFile, openFile}
+use Rattle.sealed.specs.Checkpoint.{OpenedFile, fileKind, fileLen, fileBytes, legalFile, openFile}
 use Rattle.sealed.proofs.RecordTrip.{opens-legal, length-record}
 use Rattle.sealed.proofs.LogTrip.{version-is}
 use Rattle.protocol.specs.Vaults.{newVault, laneOk, vaultOk}
-use Rattle.protocol.specs.States.{noJournal, noPoints, noHeld, valid, ready}
+use Rattle.protocol.specs.States.{noJournal, noPoint, noPoints, noHeld, valid, ready}
 use Rattle.protocol.specs.Said.{refused, taken, Answered, refusing, taking, refuse}
 use Rattle.protocol.specs.Load.{loaded, load}
 use Rattle.protocol.specs.Accept.{tooLow, listedMore, holding, accepted, accept, heldRecord, holds, seal}
 use Rattle.protocol.specs.Commit.{committed, commitOpened, commit, outOfTurn}
-use Rattle.protocol.specs.Checkpoint.{tableFile}
+use Rattle.protocol.specs.Point.{marksTo, marksOf, marksFrom, laneCount, unseenBelow, journalOf, countsAt, pointAt, pointsMore, pointed, point}
+use Rattle.protocol.specs.Checkpoint.{tableFile, coveredPoint, coveredPoints, checkpointed, checkpointDue, checkpoint}
+use Rattle.protocol.specs.Truncate.{pointsOf, findPoint, droppedTo, afterTruncateR, truncateLane, uncovered, truncateFirst, truncateNext, truncateDue, truncate}
 use Rattle.protocol.specs.Replay.{stopped, reading, passedOver, orStop, behind, stepOpened, steps, missingFrom, orMissing, ended, replay}
 use Rattle.protocol.specs.Recover.{logMax, spent, recovered, recoverRead, recoverLog, recoverFile, recoverFrom, recoverFirst, afterVersion, allVisible, afterR, inService, recoverDue, recoverPhase, recover, otherVersion}
-use Rattle.protocol.specs.History.{Event, call, cut, callLoad, callRecover, callAccept, callSeal, callCommit, Placed, cardAfter, insertPlaced, inOrder, endToEnd, faithfulLog, FaithfulFile, vaultAfter, Sealing, Lasting, World, nothingPending, newLasting, newWorld, bookAfter, done, settled, sealedBy, withSealings, answerOf, firstAnswer, answer, addsOf, afterSaid, afterAnswer, next, run, PutOut, Honest, Premises}
-use Rattle.protocol.specs.Worked.{text, shownEntry, onlyRecord, recordOf, olderFile, newerFile, doubledLog, lastVault, cold, fromEmpty, recovering, events}
+use Rattle.protocol.specs.History.{Event, call, cut, callLoad, callRecover, callAccept, callSeal, callCommit, callPoint, callCheckpoint, callTruncate, Placed, placedFrom, cardAfter, insertPlaced, inOrder, endToEnd, faithfulLog, FaithfulFile, vaultAfter, Sealing, Lasting, World, nothingPending, newLasting, newWorld, bookAfter, done, settled, sealedBy, withSealings, answerOf, firstAnswer, answer, addsOf, afterSaid, afterAnswer, next, run, PutOut, Honest, Premises}
+use Rattle.protocol.specs.Worked.{text, shownEntry, onlyRecord, recordOf, olderFile, newerFile, doubledLog, lastVault, cold, fromEmpty, recovering, events, tidying, allEight, tidyVault}
 use Rattle.protocol.specs.declared.Vault.{Vault}
 use Rattle.protocol.specs.declared.Phase.the-variants as F
 use Rattle.protocol.specs.declared.Due.{Due}
 use Rattle.protocol.specs.declared.Due.the-variants as D
 use Rattle.protocol.specs.declared.Journal.{Journal}
+use Rattle.protocol.specs.declared.Points.{Points}
 use Rattle.protocol.specs.declared.Held.{Held}
 use Rattle.protocol.specs.declared.State.{State}
 use Rattle.protocol.specs.declared.Store.{Store}
@@ -274,6 +277,80 @@ module _ (key : List ℕ) where
   unfolding Honest events newWorld newLasting newOne next answer firstAnswer addsOf afterAnswer afterSaid done cardAfter vaultAfter bookAfter withSealings sealedBy
   go-all long =
       by newOne (λ e. (refl, refl)) (rw (load-taken newVault key new-good long)) (go-recovering (go-accept (go-seal (go-commit (go-cut (go-load long))))))
+
+  -- ---- a list with all eight operations, each taken
+
+  -- the point above the record: one number of lane 0 lies below it
+  onePoint : Points
+  onePoint = record { items = record { position = 20; counts = 1 ∷ replicate 7 0; covered = false } ∷ replicate 7 noPoint; count = 1; any = true; newest = 20 }
+
+  thirdFile : List ℕ
+  thirdFile = fileBytes (aesGcm key) 3 3 (entered emptyTable text 0 1)
+
+  third : Sealing
+  third = record { kind = fileKind; lane = 0; number = 3; bytes = thirdFile }
+
+  -- with R of lane 0, S and N
+  counted : ℕ → ℕ → ℕ → Vault
+  counted r s n = record { w = 1 ∷ replicate 7 0; v = 1 ∷ replicate 7 0; r = r ∷ replicate 7 0; e = 0; s = s; n = n }
+
+  tidied : Vault → List (List ℕ) → List Sealing → Store → List ℕ → Vault → Due → Points → World
+  tidied x more sealings store bytes y due points = record {
+    lasting = record { vault = x; card = record { records = record { position = 10; bytes = recordOf key } ∷ []; files = olderFile key ∷ newerFile key ∷ more }; book = onlyRecord ∷ []; sealings = sealings };
+    pending = record { store = store; bytes = bytes; adds = none };
+    state = some (record { vault = y; phase = F.Serving; due = due; table = entered emptyTable text 0 1; journal = journalOf [] true 10; points = points; held = holding text 0 10; key = key });
+  }
+
+  -- in the midst of the truncation
+  dropping : ℕ → Store → Due → Points → World
+  dropping r store due points = tidied (counted r 3 3) (thirdFile ∷ []) (third ∷ only ∷ newer ∷ older ∷ []) store [] (counted 1 3 3) due points
+
+  gone : World
+  gone = dropping 1 (S.Delete 20) D.Nothing (droppedTo (coveredPoints onePoint) 20)
+
+  go-point : {es : List Event} {u : World} → Goes (tidied (counted 0 2 2) [] (only ∷ newer ∷ older ∷ []) S.Nothing [] (counted 0 2 2) D.Nothing onePoint) es u → Goes visible (call (callPoint 20) ∷ es) u
+  unfolding Honest lasts serves visible only numbers counted tidied onePoint next answer answerOf addsOf afterAnswer afterSaid done cardAfter vaultAfter bookAfter withSealings sealedBy point pointed pointAt pointsMore countsAt journalOf marksOf marksTo marksFrom laneCount unseenBelow ready valid vaultOk laneOk allBelow listedMore refuse
+  go-point g = by _ tt refl g
+
+  go-checkpoint : {es : List Event} {u : World} → Goes (tidied (counted 0 2 3) (thirdFile ∷ []) (third ∷ only ∷ newer ∷ older ∷ []) (S.S 3) [] (counted 0 3 3) D.Nothing (coveredPoints onePoint)) es u
+      → Goes (tidied (counted 0 2 2) [] (only ∷ newer ∷ older ∷ []) S.Nothing [] (counted 0 2 2) D.Nothing onePoint) (replicate 3 (call (callCheckpoint fileLen)) ++ es) u
+  unfolding Honest counted tidied third thirdFile next answer answerOf addsOf afterAnswer afterSaid done cardAfter vaultAfter bookAfter withSealings sealedBy checkpoint checkpointDue checkpointed tableFile valid vaultOk laneOk allBelow journalOf onePoint refuse
+  go-checkpoint g =
+      by (tidied (counted 0 2 2) [] (only ∷ newer ∷ older ∷ []) (S.N 3) [] (counted 0 2 3) D.File onePoint) tt refl
+      (by (tidied (counted 0 2 3) [] (third ∷ only ∷ newer ∷ older ∷ []) S.File thirdFile (counted 0 2 3) D.Version onePoint) tt refl
+      (by _ tt refl g))
+
+  go-truncate : Goes (tidied (counted 0 2 3) (thirdFile ∷ []) (third ∷ only ∷ newer ∷ older ∷ []) (S.S 3) [] (counted 0 3 3) D.Nothing (coveredPoints onePoint)) (replicate 9 (call (callTruncate 20))) gone
+  unfolding Honest counted tidied dropping gone next answer answerOf addsOf afterAnswer afterSaid done cardAfter vaultAfter bookAfter withSealings sealedBy truncate truncateDue truncateFirst truncateNext truncateLane afterTruncateR uncovered findPoint pointsOf coveredPoints coveredPoint valid vaultOk laneOk allBelow journalOf onePoint refuse
+  go-truncate =
+      let ps = coveredPoints onePoint in
+      by (dropping 0 (S.R 0 1) (D.TruncateR 1 20) ps) tt refl
+      (by (dropping 1 (S.R 1 0) (D.TruncateR 2 20) ps) tt refl
+      (by (dropping 1 (S.R 2 0) (D.TruncateR 3 20) ps) tt refl
+      (by (dropping 1 (S.R 3 0) (D.TruncateR 4 20) ps) tt refl
+      (by (dropping 1 (S.R 4 0) (D.TruncateR 5 20) ps) tt refl
+      (by (dropping 1 (S.R 5 0) (D.TruncateR 6 20) ps) tt refl
+      (by (dropping 1 (S.R 6 0) (D.TruncateR 7 20) ps) tt refl
+      (by (dropping 1 (S.R 7 0) (D.TruncateDelete 20) ps) tt refl
+      (by gone tt refl stay))))))))
+
+  go-eight : length key ≡ 16 → Goes newWorld (allEight key) gone
+  unfolding Honest allEight newWorld newLasting newOne next answer firstAnswer addsOf afterAnswer afterSaid done cardAfter vaultAfter bookAfter withSealings sealedBy
+  go-eight long =
+      by newOne (λ e. (refl, refl)) (rw (load-taken newVault key new-good long)) (go-recovering (go-accept (go-seal (go-commit (go-point (go-checkpoint go-truncate))))))
+
+  -- it keeps to the premises
+  pub eight-listed : length key ≡ 16 → Premises key newWorld (allEight key)
+  eight-listed long = go-eight long .keeps
+
+  -- and each of its calls is taken: the record is in the third checkpoint, R of lane 0 is 1, and the log is empty
+  pub eight-vault : length key ≡ 16 → settled (run key newWorld (allEight key)) .vault ≡ tidyVault
+  unfolding gone dropping tidied counted tidyVault done vaultAfter
+  eight-vault long = ap (λ (w : World). settled w .vault) (go-eight long .ends)
+
+  pub eight-log : length key ≡ 16 → faithfulLog (settled (run key newWorld (allEight key)) .card) ≡ []
+  unfolding gone dropping tidied done cardAfter placedFrom faithfulLog inOrder endToEnd
+  eight-log long = ap (λ (w : World). faithfulLog (settled w .card)) (go-eight long .ends)
 
   -- ---- the list
 

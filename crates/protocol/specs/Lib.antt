@@ -1,7 +1,7 @@
 -- The definitions of 01's operations, which contracts and theorems cite.
 -- Vaults: the 27 numbers. States: the state, and the rule for a handed one. Said: what a call answers, in 01's numbers.
 -- Load, Accept (with Seal), Commit, Point, Checkpoint, Truncate, Replay (the log rules), Recover: the operations.
--- Tally: the stores of the longer operations, in order. Book, LatestOf: the book and its table. History: the list, the card and the premises.
+-- Tally: the stores of the longer operations, in order. LatestOf: the latest of a book's writes. History: the list, the card and the premises.
 -- Claim: demand 3. Worked: a list with an honest card and hostile ones. Sheet: the bench sheet.
 pub mod Vaults
 pub mod States
@@ -15,7 +15,6 @@ pub mod Truncate
 pub mod Replay
 pub mod Recover
 pub mod Tally
-pub mod Book
 pub mod LatestOf
 pub mod History
 pub mod Claim

@@ -13,7 +13,7 @@ use Rattle.sealed.specs.Record.{Opened, recordBytes}
 use Rattle.sealed.specs.Checkpoint.{fileLen, fileBytes}
 use Rattle.protocol.specs.Vaults.{newVault}
 use Rattle.protocol.specs.Load.{loaded}
-use Rattle.protocol.specs.History.{Event, call, cut, callLoad, callRecover, callAccept, callSeal, callCommit}
+use Rattle.protocol.specs.History.{Event, call, cut, callLoad, callRecover, callAccept, callSeal, callCommit, callPoint, callCheckpoint, callTruncate}
 use Rattle.protocol.specs.declared.Vault.{Vault}
 use Rattle.protocol.specs.declared.State.{State}
 
@@ -76,3 +76,16 @@ restarting key = cut true ∷ call (callLoad lastVault key) ∷ []
 
 unfoldable pub events : List ℕ → List Event
 events key = call (callLoad newVault key) ∷ (recovering ++ (transacting key ++ restarting key))
+
+-- ---- a list with all eight operations
+
+-- in place of the cut: a point above the record, a checkpoint that covers it, and a truncation there
+abbrev pub tidying : List Event
+tidying = call (callPoint 20) ∷ (replicate 3 (call (callCheckpoint fileLen)) ++ replicate 9 (call (callTruncate 20)))
+
+unfoldable pub allEight : List ℕ → List Event
+allEight key = call (callLoad newVault key) ∷ (recovering ++ (transacting key ++ tidying))
+
+-- the vault at its end
+unfoldable pub tidyVault : Vault
+tidyVault = record { w = 1 ∷ replicate 7 0; v = 1 ∷ replicate 7 0; r = 1 ∷ replicate 7 0; e = 0; s = 3; n = 3 }
