@@ -72,20 +72,44 @@ module _ (key : List ℕ) where
   record-apart : (a : Lasting) (d : Durable) (c : State) (p : ℕ) (r : Opened) (put : List ℕ) → put ≡ bytesOf key r → Apart key a d
       → Apart key (withSealings a (sealedBy c (S.Record p) put)) (known (outRecord r) d)
   unfolding withSealings sealedBy
-  record-apart a d c p r put e h = record { vault = h .vault; book = h .book; records = h .records; files = h .files; out = λ b m. go b (List·Memᴰ·cases-cons m) }
+  record-apart a d c p r put e h = record {
+    vault = h .vault;
+    book = h .book;
+    records = h .records;
+    files = h .files;
+    out = λ b m. go b (List·Memᴰ·cases-cons m);
+    out-record = λ x m. back x (List·Memᴰ·cases-cons m);
+    out-file = λ f m. List·Memᴰ·tail (h .out-file f m);
+  }
     where
       go : (b : List ℕ) → (b ≡ put) ⊎ List·Memᴰ b (bytesIn (a .sealings)) → Known key (r ∷ d .sealed) (d .files) b
       go b (inl q) = as-record r (List·Memᴰ·head refl) (q ∙ e)
       go b (inr m) = with-record r (h .out b m)
 
+      back : (x : Opened) → (x ≡ r) ⊎ List·Memᴰ x (d .sealed) → List·Memᴰ (bytesOf key x) (put ∷ bytesIn (a .sealings))
+      back x (inl q) = List·Memᴰ·head (ap (bytesOf key) q ∙ sym e)
+      back x (inr m) = List·Memᴰ·tail (h .out-record x m)
+
   file-apart : (a : Lasting) (d : Durable) (c : State) (f : OpenedFile) (put : List ℕ) → put ≡ fileOf key f → Apart key a d
       → Apart key (withSealings a (sealedBy c S.File put)) (known (outFile f) d)
   unfolding withSealings sealedBy
-  file-apart a d c f put e h = record { vault = h .vault; book = h .book; records = h .records; files = h .files; out = λ b m. go b (List·Memᴰ·cases-cons m) }
+  file-apart a d c f put e h = record {
+    vault = h .vault;
+    book = h .book;
+    records = h .records;
+    files = h .files;
+    out = λ b m. go b (List·Memᴰ·cases-cons m);
+    out-record = λ r m. List·Memᴰ·tail (h .out-record r m);
+    out-file = λ x m. back x (List·Memᴰ·cases-cons m);
+  }
     where
       go : (b : List ℕ) → (b ≡ put) ⊎ List·Memᴰ b (bytesIn (a .sealings)) → Known key (d .sealed) (f ∷ d .files) b
       go b (inl q) = as-file f (List·Memᴰ·head refl) (q ∙ e)
       go b (inr m) = with-file f (h .out b m)
+
+      back : (x : OpenedFile) → (x ≡ f) ⊎ List·Memᴰ x (d .files) → List·Memᴰ (fileOf key x) (put ∷ bytesIn (a .sealings))
+      back x (inl q) = List·Memᴰ·head (ap (fileOf key) q ∙ sym e)
+      back x (inr m) = List·Memᴰ·tail (h .out-file x m)
 
   pub apart-known : (a : Lasting) (d : Durable) (c : State) (o : Out) (st : Store) (put : List ℕ) → Puts key o st put → Apart key a d → Apart key (withSealings a (sealedBy c st put)) (known o d)
   apart-known a d c quiet st put p h = plain-apart a d c st put p h
@@ -100,16 +124,16 @@ module _ (key : List ℕ) where
   plain-done : (a : Lasting) (d : Durable) (st : Store) (put : List ℕ) → Puts key quiet st put → Apart key a d → Apart key (stored st put a) (carried st quiet d)
   unfolding done vaultAfter cardAfter bookAfter
   plain-done a d S.Nothing put p h = h
-  plain-done a d (S.W l k) put p h = record { vault = ap (λ (x : Vault). setW x l k) (h .vault); book = h .book; records = h .records; files = h .files; out = h .out }
-  plain-done a d (S.V l k) put p h = record { vault = ap (λ (x : Vault). setV x l k) (h .vault); book = h .book; records = h .records; files = h .files; out = h .out }
-  plain-done a d (S.R l k) put p h = record { vault = ap (λ (x : Vault). setR x l k) (h .vault); book = h .book; records = h .records; files = h .files; out = h .out }
-  plain-done a d (S.E k) put p h = record { vault = ap (λ (x : Vault). setE x k) (h .vault); book = h .book; records = h .records; files = h .files; out = h .out }
-  plain-done a d (S.S k) put p h = record { vault = ap (λ (x : Vault). setS x k) (h .vault); book = h .book; records = h .records; files = h .files; out = h .out }
-  plain-done a d (S.N k) put p h = record { vault = ap (λ (x : Vault). setN x k) (h .vault); book = h .book; records = h .records; files = h .files; out = h .out }
+  plain-done a d (S.W l k) put p h = record { vault = ap (λ (x : Vault). setW x l k) (h .vault); book = h .book; records = h .records; files = h .files; out = h .out; out-record = h .out-record; out-file = h .out-file }
+  plain-done a d (S.V l k) put p h = record { vault = ap (λ (x : Vault). setV x l k) (h .vault); book = h .book; records = h .records; files = h .files; out = h .out; out-record = h .out-record; out-file = h .out-file }
+  plain-done a d (S.R l k) put p h = record { vault = ap (λ (x : Vault). setR x l k) (h .vault); book = h .book; records = h .records; files = h .files; out = h .out; out-record = h .out-record; out-file = h .out-file }
+  plain-done a d (S.E k) put p h = record { vault = ap (λ (x : Vault). setE x k) (h .vault); book = h .book; records = h .records; files = h .files; out = h .out; out-record = h .out-record; out-file = h .out-file }
+  plain-done a d (S.S k) put p h = record { vault = ap (λ (x : Vault). setS x k) (h .vault); book = h .book; records = h .records; files = h .files; out = h .out; out-record = h .out-record; out-file = h .out-file }
+  plain-done a d (S.N k) put p h = record { vault = ap (λ (x : Vault). setN x k) (h .vault); book = h .book; records = h .records; files = h .files; out = h .out; out-record = h .out-record; out-file = h .out-file }
   plain-done a d (S.Record q) put p h = absurd p
   plain-done a d S.File put p h = absurd p
-  plain-done a d (S.Delete q) put p h = record { vault = h .vault; book = h .book; records = ap (placedFrom q) (h .records) ∙ placed-from key q (d .spots); files = h .files; out = h .out }
-  plain-done a d S.Empty put p h = record { vault = h .vault; book = h .book; records = refl; files = h .files; out = h .out }
+  plain-done a d (S.Delete q) put p h = record { vault = h .vault; book = h .book; records = ap (placedFrom q) (h .records) ∙ placed-from key q (d .spots); files = h .files; out = h .out; out-record = h .out-record; out-file = h .out-file }
+  plain-done a d S.Empty put p h = record { vault = h .vault; book = h .book; records = refl; files = h .files; out = h .out; out-record = h .out-record; out-file = h .out-file }
 
   record-done : (a : Lasting) (d : Durable) (p : ℕ) (r : Opened) (put : List ℕ) → put ≡ bytesOf key r → Apart key a d → Apart key (stored (S.Record p) put a) (carried (S.Record p) (outRecord r) d)
   unfolding done vaultAfter cardAfter bookAfter
@@ -119,6 +143,8 @@ module _ (key : List ℕ) where
     records = ap₂ (λ (xs : List Placed) (b : List ℕ). xs ++ (record { position = p; bytes = b } ∷ [])) (h .records) e ∙ sym (map-snoc (placedOf key) (d .spots) (record { position = p; rec = r }));
     files = h .files;
     out = h .out;
+    out-record = h .out-record;
+    out-file = h .out-file;
   }
 
   file-done : (a : Lasting) (d : Durable) (f : OpenedFile) (put : List ℕ) → put ≡ fileOf key f → Apart key a d → Apart key (stored S.File put a) (carried S.File (outFile f) d)
@@ -129,6 +155,8 @@ module _ (key : List ℕ) where
     records = h .records;
     files = ap₂ (λ (xs : List (List ℕ)) (b : List ℕ). xs ++ (b ∷ [])) (h .files) e ∙ sym (map-snoc (fileOf key) (d .cards) f);
     out = h .out;
+    out-record = h .out-record;
+    out-file = h .out-file;
   }
 
   store-done : (a : Lasting) (d : Durable) (o : Out) (st : Store) (put : List ℕ) → Puts key o st put → Apart key a d → Apart key (stored st put a) (carried st o d)
@@ -142,7 +170,7 @@ module _ (key : List ℕ) where
   unfolding done bookAfter
   apart-done a d o st put none p h = store-done a d o st put p h
   apart-done a d o st put (some r) p h = let k = store-done a d o st put p h in
-      record { vault = k .vault; book = ap (λ (x : List Opened). x ++ (r ∷ [])) (k .book); records = k .records; files = k .files; out = k .out }
+      record { vault = k .vault; book = ap (λ (x : List Opened). x ++ (r ∷ [])) (k .book); records = k .records; files = k .files; out = k .out; out-record = k .out-record; out-file = k .out-file }
 
   -- ---- the log that a faithful card hands over
   pub faithful-log : (a : Lasting) (d : Durable) → Apart key a d → Rising (d .spots) → faithfulLog (a .card) ≡ laidOut key (recsOf (d .spots))

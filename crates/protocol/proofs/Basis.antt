@@ -1,10 +1,10 @@
 -- What the theorem takes from the layers below: the bytes of a record and of a file under the one key, what can be written as such, and that
 -- what was sealed opens to what was sealed. The proofs above use these laws and never the layouts or the cipher.
 -- Assumes nothing.
-use Prim.Native.Nat.{ℕ, _≤_, _<_}
+use Prim.Native.Nat.{ℕ, _-_, _≤_, _<_}
 use mathlib.Core.Path.{_≡_}
 use mathlib.Core.Bool.{true}
-use mathlib.Core.List.{List}
+use mathlib.Core.List.{List, []}
 use mathlib.Core.Option.{Option, some}
 use native.Mathlib.Omega.{arith}
 use lib.ListN.{length}
@@ -18,7 +18,7 @@ use Rattle.table.specs.declared.Entry.{Entry}
 use Rattle.table.specs.declared.Table.{Table}
 use Rattle.sealed.specs.Aead.{aesGcm}
 use Rattle.sealed.specs.Record.{Opened, recordBytes, openRecord}
-use Rattle.sealed.specs.Checkpoint.{OpenedFile, fileBytes, openFile}
+use Rattle.sealed.specs.Checkpoint.{OpenedFile, fileBytes, legalFile, openFile}
 use Rattle.sealed.proofs.RecordTrip.{length-record, record-opens}
 use Rattle.sealed.proofs.FileLaws as Files
 use Rattle.protocol.specs.Vaults.{counterMax}
@@ -58,6 +58,11 @@ module _ (key : List ℕ) where
 
   pub file-opens : (f : OpenedFile) → FileWritable f → openFile (aesGcm key) (fileOf f) ≡ some f
   file-opens f w = Files.file-opens key (f .version) (f .seal) (f .table) (omega (arith, w .version)) (omega (arith, w .seal)) (w .canonical)
+
+  -- no bytes are no file
+  pub empty-file : (f : OpenedFile) → openFile (aesGcm key) [] ≡ some f → ⊥
+  unfolding openFile legalFile
+  empty-file f e = let z : _≡_ {A = ℕ} 0 1 = cc in absurd (omega arith)
 
   -- 56 to 176 bytes
   pub size : (r : Opened) → Writable r → (56 ≤ length (bytesOf r)) × (length (bytesOf r) ≤ 176)

@@ -9,11 +9,11 @@ use mathlib.Core.Path.{_≡_, refl, ap, subst, _∙_}
 use mathlib.Core.Bool.{Bool, true, false, cond, not, _||_}
 use mathlib.Core.Option.{Option, none, some}
 use mathlib.Core.Logic.{_⊎_, inl, inr}
-use mathlib.Core.List.{List, List·Memᴰ}
+use mathlib.Core.List.{List, [], List·Memᴰ, List·Memᴰ·head, List·Memᴰ·tail, List·Memᴰ·not-nil}
 use native.Mathlib.Omega.{arith}
 use native.Mathlib.Decide.{decLt, decLe}
 use lib.Dec.{leb, ltb, eqb}
-use lib.ListN.{set, length, take, drop, length-set, List·getD-eq-default}
+use lib.ListN.{set, length, take, drop, length-set, drop-of-length-le, List·getD-eq-default}
 use borrow.Author.Tests.{leb-false, ltb-false, eqb-true}
 use Rattle.octets.specs.Lists.{at}
 use Rattle.octets.proofs.BoolLaws.{or-left, or-right}
@@ -21,10 +21,10 @@ use Rattle.table.specs.declared.Table.{Table}
 use Rattle.table.specs.Table.{lanes}
 use Rattle.sealed.specs.Aead.{aesGcm}
 use Rattle.sealed.specs.Record.{Opened, wholeLen, openRecord}
-use Rattle.sealed.specs.Log.{recordAt}
-use Rattle.sealed.proofs.LogTrip.{at-opens}
+use Rattle.sealed.specs.Log.{recordAt, recordsTo, recordsIn}
+use Rattle.sealed.proofs.LogTrip.{at-opens, records-at, records-nil}
 use Rattle.protocol.specs.declared.Vault.{Vault}
-use Rattle.protocol.specs.Replay.{Reading, Read, stopped, reading, passedOver, orStop, stepOpened, step, stepOn, steps, ended, replay}
+use Rattle.protocol.specs.Replay.{Reading, Read, stopped, reading, passedOver, orStop, behind, stepOpened, step, stepOn, steps, ended, replay}
 use Rattle.protocol.proofs.Basis.{Writable, withRecord}
 use Rattle.protocol.proofs.Lanes.{Put, same, other, put}
 use Rattle.protocol.proofs.Latest.{In, Part, Full, Upto, Single, sound-enter, cover-enter, canon-enter, cover-mono}
@@ -77,51 +77,69 @@ module _ (key : List ℕ) (x : Vault) (book : List Opened) (sealed : Opened → 
               let z : at last (y .lane) ≡ at last (r .lane) = ap (at last) e in
               inr (single y r (known y (p .0)) s e (omega arith))
 
-  -- the same of what a step comes to; of a reading that was stopped nothing is said
-  Good : Read → Type 0
-  Good (stopped n vs) = Unit {0}
-  Good (reading g) = Loop (g .last) (g .table)
+  -- a log of which whatever opens, of the whole records that a reading meets, was sealed
+  module _ (log : List ℕ) where
+    -- so from an offset on, of n records at the most
+    abbrev Was : ℕ → ℕ → Type 0
+    Was n offset = (b : List ℕ) (r : Opened) → List·Memᴰ b (recordsTo n (drop offset log)) → openRecord (aesGcm key) b ≡ some r → sealed r
 
-  -- whichever of two it is
-  good-cond : (b : Bool) (d e : Read) → (b ≡ true → Good d) → (b ≡ false → Good e) → Good (cond b d e)
-  good-cond true d e h k = h refl
-  good-cond false d e h k = k refl
+    -- what a step comes to, with n records left; of a reading that was stopped nothing is said
+    Good : ℕ → Read → Type 0
+    Good n (stopped k vs) = Unit {0}
+    Good n (reading g) = Loop (g .last) (g .table) × Was n (g .offset)
 
-  -- where a test has to hold
-  good-stop : (b : Bool) (n : ℕ) (vs : List ℕ) (d : Read) → (b ≡ true → Good d) → Good (orStop (not b) n vs d)
-  unfolding orStop Good
-  good-stop true n vs d h = h refl
-  good-stop false n vs d h = tt
+    -- whichever of two it is
+    good-cond : (n : ℕ) (b : Bool) (d e : Read) → (b ≡ true → Good n d) → (b ≡ false → Good n e) → Good n (cond b d e)
+    good-cond n true d e h k = h refl
+    good-cond n false d e h k = k refl
 
-  -- a record that was sealed, or none
-  good-opened : (g : Reading) (o : Option Opened) → ((r : Opened) → o ≡ some r → sealed r) → Loop (g .last) (g .table) → Good (stepOpened x g o)
-  unfolding stepOpened passedOver Good
-  good-opened g none s h = tt
-  good-opened g (some r) s h =
-      let low = leb (r .number) (at (x .r) (r .lane)) in
-      let high = ltb (at (x .v) (r .lane)) (r .number) in
-      let turn = eqb (r .number) (suc (at (g .last) (r .lane))) in
-      good-cond (low || high) _ _ (λ p. h)
-      (λ p. good-stop (eqb (r .epoch) (x .e)) _ _ _
-      (λ e. good-stop turn _ _ _
-      (λ n. took (g .last) (g .table) r h (s r refl) (leb-false _ _ (or-left low high p)) (ltb-false _ _ (or-right low high p)) (eqb-true _ _ n))))
+    -- where a test has to hold
+    good-stop : (n : ℕ) (b : Bool) (k : ℕ) (vs : List ℕ) (d : Read) → (b ≡ true → Good n d) → Good n (orStop (not b) k vs d)
+    unfolding orStop Good
+    good-stop n true k vs d h = h refl
+    good-stop n false k vs d h = tt
 
-  -- a log of which whatever opens was sealed
-  module _ (log : List ℕ) (was : (i n : ℕ) (r : Opened) → openRecord (aesGcm key) (take n (drop i log)) ≡ some r → sealed r) where
+    -- a record that was sealed, or none
+    good-opened : (n : ℕ) (g : Reading) (o : Option Opened) → ((r : Opened) → o ≡ some r → sealed r × Was n (behind g r)) → Loop (g .last) (g .table) → Good n (stepOpened x g o)
+    unfolding stepOpened passedOver Good
+    good-opened n g none s h = tt
+    good-opened n g (some r) s h =
+        let low = leb (r .number) (at (x .r) (r .lane)) in
+        let high = ltb (at (x .v) (r .lane)) (r .number) in
+        let turn = eqb (r .number) (suc (at (g .last) (r .lane))) in
+        let was = s r refl in
+        good-cond n (low || high) _ _ (λ p. (h, was .1))
+        (λ p. good-stop n (eqb (r .epoch) (x .e)) _ _ _
+        (λ e. good-stop n turn _ _ _
+        (λ q. (took (g .last) (g .table) r h (was .0) (leb-false _ _ (or-left low high p)) (ltb-false _ _ (or-right low high p)) (eqb-true _ _ q), was .1))))
+
+    -- what is read was the first of those left
+    first : (n : ℕ) (g : Reading) → Was (suc n) (g .offset) → (r : Opened) → recordAt (aesGcm key) log (g .offset) ≡ some r → sealed r × Was n (behind g r)
+    unfolding behind
+    first n g was r e =
+        let s = drop (g .offset) log in
+        let is = records-at key log (g .offset) n r e in (
+          was (take (wholeLen s) s) r (rw is (List·Memᴰ·head refl)) (at-opens (aesGcm key) log (g .offset) r e),
+          λ b y m. was b y (rw is (List·Memᴰ·tail m)),
+        )
+
     -- a record more
-    good-on : (d : Read) → Good d → Good (stepOn (aesGcm key) x log d)
+    good-on : (n : ℕ) (d : Read) → Good (suc n) d → Good n (stepOn (aesGcm key) x log d)
     unfolding stepOn step Good
-    good-on (stopped n vs) h = tt
-    good-on (reading g) h =
-        good-cond (ltb (g .offset) (length log)) _ _
-        (λ p. good-opened g (recordAt (aesGcm key) log (g .offset)) (λ r e. was (g .offset) (wholeLen (drop (g .offset) log)) r (at-opens (aesGcm key) log (g .offset) r e)) h)
-        (λ p. h)
+    good-on n (stopped k vs) h = tt
+    good-on n (reading g) h =
+        good-cond n (ltb (g .offset) (length log)) _ _
+        (λ p. good-opened n g (recordAt (aesGcm key) log (g .offset)) (first n g (h .1)) (h .0))
+        (λ p.
+        let end : drop (g .offset) log ≡ [] = drop-of-length-le log (ltb-false _ _ p) in
+        let none-left : recordsTo n (drop (g .offset) log) ≡ [] = ap (recordsTo n) end ∙ records-nil n in
+        (h .0, λ b r m. absurd (List·Memᴰ·not-nil (rw none-left at m))))
 
     -- several
-    good-steps : (n : ℕ) (d : Read) → Good d → Good (steps n (aesGcm key) x log d)
+    good-steps : (n : ℕ) (d : Read) → Good n d → Good 0 (steps n (aesGcm key) x log d)
     unfolding steps
     good-steps zero d h = h
-    good-steps (suc n) d h = good-steps n (stepOn (aesGcm key) x log d) (good-on d h)
+    good-steps (suc n) d h = good-steps n (stepOn (aesGcm key) x log d) (good-on n d h)
 
   -- a lane with R < V has reached V, and any other is there already
   reached : (last : List ℕ) → ((l : ℕ) → at (x .r) l ≤ at last l) → ((l : ℕ) → l < lanes → Reached x last l) → (l : ℕ) → at (x .v) l ≤ at last l
@@ -141,16 +159,16 @@ module _ (key : List ℕ) (x : Vault) (book : List Opened) (sealed : Opened → 
   }
 
   -- the end of the reading
-  good-ended : (d : Read) (g : Reading) → Good d → ended x d ≡ reading g → Full book (g .table)
+  good-ended : (log : List ℕ) (d : Read) (g : Reading) → Good log 0 d → ended x d ≡ reading g → Full book (g .table)
   unfolding ended Good
-  good-ended (stopped n vs) g h e = let z : _≡_ {A = ℕ} 0 1 = cc in absurd (omega arith)
-  good-ended (reading f) g h e = let i = ends-reached x f g e in subst (λ (k : Reading). Full book (k .table)) (i .0) (full (f .last) (f .table) h (i .1))
+  good-ended log (stopped n vs) g h e = let z : _≡_ {A = ℕ} 0 1 = cc in absurd (omega arith)
+  good-ended log (reading f) g h e = let i = ends-reached x f g e in subst (λ (k : Reading). Full book (k .table)) (i .0) (full (f .last) (f .table) (h .0) (i .1))
 
   -- from a table that has the book up to R, an accepted reading comes to the latest of the whole book
-  pub replay-full : (log : List ℕ) → ((i n : ℕ) (r : Opened) → openRecord (aesGcm key) (take n (drop i log)) ≡ some r → sealed r) → (t : Table) → Upto book (x .r) t
+  pub replay-full : (log : List ℕ) → ((b : List ℕ) (r : Opened) → List·Memᴰ b (recordsIn log) → openRecord (aesGcm key) b ≡ some r → sealed r) → (t : Table) → Upto book (x .r) t
       → (g : Reading) → replay (aesGcm key) x t log ≡ reading g → Full book (g .table)
-  unfolding replay Good
+  unfolding replay Good recordsIn
   replay-full log was t u g e =
-      good-ended (steps (length log) (aesGcm key) x log (reading (record { offset = 0; last = x .r; table = t }))) g
-      (good-steps log was (length log) (reading (record { offset = 0; last = x .r; table = t })) (record { upto = u; low = λ l. omega arith; len = rlen }))
+      good-ended log (steps (length log) (aesGcm key) x log (reading (record { offset = 0; last = x .r; table = t }))) g
+      (good-steps log (length log) (reading (record { offset = 0; last = x .r; table = t })) (record { upto = u; low = λ l. omega arith; len = rlen }, was))
       e

@@ -374,6 +374,8 @@ module _ (key : List ℕ) where
     pub records : a .card .records ≡ map (placedOf key) (d .spots)
     pub files : a .card .files ≡ map (fileOf key) (d .cards)
     pub out : (b : List ℕ) → List·Memᴰ b (map (λ (s : Sealing). s .bytes) (a .sealings)) → Known (d .sealed) (d .files) b
+    pub out-record : (r : Opened) → In (d .sealed) r → List·Memᴰ (bytesOf key r) (map (λ (s : Sealing). s .bytes) (a .sealings))
+    pub out-file : (f : OpenedFile) → FileIn (d .files) f → List·Memᴰ (fileOf key f) (map (λ (s : Sealing). s .bytes) (a .sealings))
 
   -- the invariant: what lasts, now and with the pending store done, and the state's tie to the latter
   pub record Invariant (w : World) : Type 0 where

@@ -4,16 +4,17 @@ use Prim.Native.Nat.{ℕ, _+_, _≤_}
 use mathlib.Core.Path.{_≡_, refl, subst}
 use mathlib.Core.Bool.{Bool, true, false, cond, not, _||_}
 use mathlib.Core.Option.{Option, none, some}
-use mathlib.Core.List.{List, [], _∷_}
+use mathlib.Core.List.{List, [], _∷_, List·Memᴰ}
 use native.Mathlib.Omega.{arith}
 use lib.Dec.{leb, ltb, eqb}
-use lib.ListN.{length, take, drop}
+use lib.ListN.{length}
 use borrow.Author.Tests.{ltb-false, leb-false, eqb-true}
 use Rattle.octets.proofs.BoolLaws.{or-left, or-right}
 use Rattle.table.specs.Table.{emptyTable}
 use Rattle.table.specs.declared.Table.{Table}
 use Rattle.sealed.specs.Aead.{aesGcm}
 use Rattle.sealed.specs.Record.{Opened, openRecord}
+use Rattle.sealed.specs.Log.{recordsIn}
 use Rattle.sealed.specs.Checkpoint.{OpenedFile, openFile}
 use Rattle.sealed.proofs.LogTrip.{file-not-record, record-not-file}
 use Rattle.protocol.specs.Vaults.{counterMax, vaultOk}
@@ -74,7 +75,7 @@ module _ (key : List ℕ) where
 
   -- whatever opens was put out
   abbrev pub TrustedLog : Durable → List ℕ → Type 0
-  TrustedLog d log = (i n : ℕ) (r : Opened) → openRecord (aesGcm key) (take n (drop i log)) ≡ some r → Known key (d .sealed) (d .files) (take n (drop i log))
+  TrustedLog d log = (b : List ℕ) (r : Opened) → List·Memᴰ b (recordsIn log) → openRecord (aesGcm key) b ≡ some r → Known key (d .sealed) (d .files) b
 
   abbrev pub TrustedFile : Durable → List ℕ → Type 0
   TrustedFile d file = (f : OpenedFile) → openFile (aesGcm key) file ≡ some f → Known key (d .sealed) (d .files) file
@@ -89,7 +90,7 @@ module _ (key : List ℕ) where
       let n2 = ltb-false counterMax (c .vault .n + 2) (or-right (ltb counterMax (c .vault .s + 2)) (ltb counterMax (c .vault .n + 2)) a) in
       let e1 = leb-false counterMax (c .vault .e) (or-right (ltb counterMax (c .vault .s + 2) || ltb counterMax (c .vault .n + 2)) (leb counterMax (c .vault .e)) sp) in
       let f = replay-full (c .key) (c .vault) (d .book) (In (d .sealed)) (i .book .known) (i .sealed .single) (i .sealed .fine) (i .book .whole) (i .book .seen) (i .lanes .rlen) (i .lanes .vlen) log
-      (λ j n y o. let q = subst (λ (x : List ℕ). openRecord (aesGcm x) (take n (drop j log)) ≡ some y) kk o in unseal (take n (drop j log)) y (i .sealed) (h j n y q) q) t u g e in (
+      (λ b y m o. let q = subst (λ (x : List ℕ). openRecord (aesGcm x) b ≡ some y) kk o in unseal b y (i .sealed) (h b y m q) q) t u g e in (
         quiet,
         record {
           puts = tt;

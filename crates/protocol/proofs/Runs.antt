@@ -8,7 +8,7 @@ use mathlib.Core.Logic.{inl}
 use mathlib.Core.List.{List, [], _∷_, List·Memᴰ·not-nil}
 use native.Mathlib.Omega.{arith}
 use native.Mathlib.Decide.{decLt}
-use lib.ListN.{length, take, drop, replicate, length-replicate, getD-replicate, List·getD-eq-default}
+use lib.ListN.{length, replicate, length-replicate, getD-replicate, List·getD-eq-default}
 use Rattle.octets.specs.Lists.{at}
 use Rattle.table.specs.Table.{lanes}
 use Rattle.sealed.specs.Aead.{aesGcm}
@@ -60,7 +60,7 @@ new-durably = record {
 module _ (key : List ℕ) where
   new-apart : Apart key newLasting newDurable
   unfolding newLasting
-  new-apart = record { vault = refl; book = refl; records = refl; files = refl; out = λ b m. absurd (List·Memᴰ·not-nil m) }
+  new-apart = record { vault = refl; book = refl; records = refl; files = refl; out = λ b m. absurd (List·Memᴰ·not-nil m); out-record = λ r m. absurd (List·Memᴰ·not-nil m); out-file = λ f m. absurd (List·Memᴰ·not-nil m) }
 
   pub new-invariant : Invariant key newWorld
   unfolding newWorld
@@ -88,7 +88,7 @@ module _ (key : List ℕ) where
   trusted w d (callPoint position) a h = tt
   trusted w d (callCheckpoint room) a h = tt
   trusted w d (callTruncate position) a h = tt
-  trusted w d (callRecover file log room) a h = (λ i n r o. a .out (take n (drop i log)) (h .0 i n r o), λ f o. a .out file (h .1 f o))
+  trusted w d (callRecover file log room) a h = (λ b r m o. a .out b (h .0 b r m o), λ f o. a .out file (h .1 f o))
 
   keep-phase : (c : State) (d : Durable) (file log : List ℕ) (room : ℕ) (ph : Phase) → c .phase ≡ ph → Durably (At c d) → LinkedAt key c (At c d) ph (c .due) → TrustedLog key d log → TrustedFile key d file
       → GoodAnswer key (At c d) none (recoverPhase c file log room ph)

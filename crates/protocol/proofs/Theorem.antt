@@ -4,7 +4,7 @@ use Prim.Native.Nat.{ℕ, zero, suc, _+_, _-_, _≤_}
 use mathlib.Core.Path.{_≡_, refl, sym, ap, ap₂, subst, subst₂, _∙_}
 use mathlib.Core.Bool.{Bool, true, false, cond, not, _&&_}
 use mathlib.Core.Option.{Option, none, some}
-use mathlib.Core.List.{List, [], _∷_, List·Memᴰ}
+use mathlib.Core.List.{List, [], _∷_, map, List·Memᴰ}
 use native.Mathlib.Omega.{arith}
 use lib.Dec.{eqb}
 use lib.ListN.{getD, length, length-map}
@@ -15,6 +15,7 @@ use Rattle.table.proofs.OrderLaws.{clash}
 use Rattle.table.specs.declared.Table.{Table}
 use Rattle.sealed.specs.Aead.{aesGcm}
 use Rattle.sealed.specs.Record.{Opened}
+use Rattle.sealed.specs.Log.{recordsIn}
 use Rattle.sealed.specs.Checkpoint.{OpenedFile, fileBytes, versionOf, openFile}
 use Rattle.sealed.proofs.LogTrip.{version-is}
 use Rattle.protocol.specs.Vaults.{counterMax, vaultOk}
@@ -25,8 +26,8 @@ use Rattle.protocol.specs.Truncate.{pointsOf}
 use Rattle.protocol.specs.Replay.{Read, stopped, reading}
 use Rattle.protocol.specs.Recover.{logMax, spent, recovered, recoverRead, recoverLog, recoverFile, otherVersion, recoverFrom, recoverFirst, recoverDue, recoverPhase, recover, inService}
 use Rattle.protocol.specs.LatestOf.{LatestOf}
-use Rattle.protocol.specs.History.{Event, call, callRecover, World, newWorld, Lasting, settled, done, bookAfter, afterSaid, afterAnswer, answer, answerOf, addsOf, next, isTaken, faithfulLog, FaithfulFile}
-use Rattle.protocol.specs.Claim.{NotLower, longestLog, Unspent, TakenUnlessSpent, HasLatest, after, Listed, TableIsTheBooks, LatestIsOne, FaithfulCardIsTaken, LoadIsTaken, CardHasAFile, LogIsShort, NoStoreLowers, Beside, Demand3}
+use Rattle.protocol.specs.History.{Event, call, callRecover, World, newWorld, Lasting, settled, done, bookAfter, afterSaid, afterAnswer, answer, answerOf, addsOf, next, isTaken, PutOut, Honest, faithfulLog, FaithfulFile}
+use Rattle.protocol.specs.Claim.{NotLower, longestLog, Unspent, TakenUnlessSpent, HasLatest, after, Listed, TableIsTheBooks, LatestIsOne, FaithfulCardIsTaken, LoadIsTaken, CardHasAFile, FaithfulCardIsHonest, LogIsShort, NoStoreLowers, Beside, Demand3}
 use Rattle.protocol.specs.declared.Vault.{Vault}
 use Rattle.protocol.specs.declared.State.{State}
 use Rattle.protocol.specs.declared.Phase.{Phase}
@@ -35,10 +36,10 @@ use Rattle.protocol.specs.declared.Due.{Due}
 use Rattle.protocol.specs.declared.Due.the-variants as D
 use Rattle.protocol.specs.declared.Store.the-variants as S
 use Rattle.protocol.proofs.VaultLaws.{vault-fine, fine-vault, state-fine, fine-state}
-use Rattle.protocol.proofs.Basis.{Writable, fileOf, file-opens}
+use Rattle.protocol.proofs.Basis.{Writable, bytesOf, fileOf, file-opens, empty-file}
 use Rattle.protocol.proofs.Latest.{In, Full}
 use Rattle.protocol.proofs.BookLaws.{full-latest, latest-one}
-use Rattle.protocol.proofs.LaidLaws.{laidOut, laid-length}
+use Rattle.protocol.proofs.LaidLaws.{laidOut, AllWritable, laid-length, records-laid}
 use Rattle.protocol.proofs.Card.{Spot, recsOf, mem-recs}
 use Rattle.protocol.proofs.Faith.{read-faithful}
 use Rattle.protocol.proofs.Invariant.{Durable, vaultTo, Durably, Cold, Service, LinkedAt, Linked, LinkedIf, Apart, Invariant, GoodSaid, known, At}
@@ -267,6 +268,31 @@ module _ (key : List ℕ) where
   pub files : CardHasAFile key
   files es p = let i = listed-invariant key es p in has-file (settled (after key es) .vault .s) (i .after) (settled (after key es)) (ap (λ (x : Vault). x .s) (sym (i .apart′ .vault))) (i .then) (i .apart′)
 
+  -- what the card hands over was put out: its records one by one, and its file
+  honest-file : (s : ℕ) (w : World) (d : Durable) (file : List ℕ) → Durably d → Apart key (settled w) d → FaithfulFile s (settled w .card) file → (f : OpenedFile) → openFile (aesGcm key) file ≡ some f → PutOut w file
+  unfolding FaithfulFile done
+  honest-file zero w d file i h e f o = absurd (empty-file key f (rw e at o))
+  honest-file (suc s) w d file i h e f o =
+      let m = mem-map (fileOf key) (d .cards) file (subst (λ (x : List (List ℕ)). List·Memᴰ file x) (h .files) (e .0)) in
+      rw (m .2) (h .out-file (m .0) (i .kept .known (m .0) (m .1)))
+
+  honest-record : (w : World) (d : Durable) → Durably d → Apart key (settled w) d → (b : List ℕ) → List·Memᴰ b (recordsIn (faithfulLog (settled w .card))) → PutOut w b
+  unfolding recordsIn done
+  honest-record w d i h b m =
+      let rs = recsOf (d .spots) in
+      let fine : AllWritable rs = λ r k. let s = mem-recs (d .spots) r k in subst Writable (sym (s .2)) (i .sealed .fine (s .0 .rec) (i .card .known (s .0) (s .1))) in
+      let e : recordsIn (faithfulLog (settled w .card)) ≡ map (bytesOf key) rs = ap recordsIn (faithful-log key (settled w) d h (i .card .rising)) ∙ records-laid key rs (length (laidOut key rs)) fine (omega arith) in
+      let x = mem-map (bytesOf key) rs b (rw e at m) in
+      let s = mem-recs (d .spots) (x .0) (x .1) in
+      rw (x .2) (h .out-record (x .0) (subst (In (d .sealed)) (sym (s .2)) (i .card .known (s .0) (s .1))))
+
+  pub honest : FaithfulCardIsHonest key
+  unfolding Honest
+  honest es p file room f =
+      let w = after key es in
+      let i = listed-invariant key es p in
+      (λ b r m o. honest-record w (i .after) (i .then) (i .apart′) b m, honest-file (settled w .vault .s) w (i .after) file (i .then) (i .apart′) f)
+
   pub one : LatestIsOne key
   one es p m x y =
       let i = listed-invariant key es p in
@@ -307,7 +333,7 @@ longest-is = refl
 -- ---- DEMAND 3
 
 pub demand-3 : Demand3
-demand-3 key long = record { table-is-the-books = safe key; latest-is-one = one key; faithful-card-is-taken = live key; load-is-taken = loads key long; card-has-a-file = files key }
+demand-3 key long = record { table-is-the-books = safe key; latest-is-one = one key; faithful-card-is-taken = live key; load-is-taken = loads key long; card-has-a-file = files key; faithful-card-is-honest = honest key }
 
 pub beside : (key : List ℕ) → Beside key
 beside key = record { log-is-short = short key; no-store-lowers = rises key; recovers = recovery-tally; truncates-nine = nine key; checkpoints-three = three key }

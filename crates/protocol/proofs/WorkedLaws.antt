@@ -5,14 +5,13 @@
 use Prim.Native.Nat.{ℕ, zero, suc, _+_, _≤_, _<_}
 use mathlib.Core.Path.{_≡_, refl, sym, ap, subst, _∙_}
 use mathlib.Core.Bool.{Bool, true, false, _&&_}
-use mathlib.Core.List.{List, [], _∷_, _++_, append-nil, List·Memᴰ, List·Memᴰ·head, List·Memᴰ·tail, List·Memᴰ·not-nil, List·Memᴰ·cases-cons}
+use mathlib.Core.List.{List, [], _∷_, _++_, map, append-nil, List·Memᴰ, List·Memᴰ·head, List·Memᴰ·tail, List·Memᴰ·not-nil, List·Memᴰ·cases-cons, List·Memᴰ·eq-of-singleton}
 use mathlib.Core.Option.{Option, some, none}
 use mathlib.Core.Logic.{_⊎_, inl, inr}
 use native.Mathlib.Omega.{arith}
 use borrow.Author.Tests.{ltb-true, le-ltb}
 use lib.Dec.{ltb, lit<}
-use lib.ListN.{length, getD, replicate, take, drop, length-take, length-drop, length-append}
-use lib.Seq.{take-all}
+use lib.ListN.{length, getD, replicate, length-append}
 use Rattle.octets.specs.Lists.{at}
 use Rattle.octets.specs.Bytes.{padded}
 use Rattle.octets.specs.Little.{little}
@@ -25,9 +24,10 @@ use Rattle.table.specs.Order.{latest}
 use Rattle.table.specs.Table.{lanes, noEntry, emptyTable, entryOf, entryAt, put, putTo, entered}
 use Rattle.table.proofs.EnteredLaws.{empty-canonical}
 use Rattle.sealed.specs.Aead.{aesGcm}
-use Rattle.sealed.specs.Record.{Opened, recordKind, wholeLen, openRecord}
-use Rattle.sealed.specs.Checkpoint.{OpenedFile, fileKind, fileLen, fileBytes, legalFile, openFile}
-use Rattle.sealed.proofs.RecordTrip.{opens-legal, length-record}
+use Rattle.sealed.specs.Record.{Opened, recordKind, openRecord}
+use Rattle.sealed.specs.Log.{recordsTo, recordsIn}
+use Rattle.sealed.specs.Checkpoint.{OpenedFile, fileKind, fileLen, fileBytes, openFile}
+use Rattle.sealed.proofs.RecordTrip.{length-record}
 use Rattle.sealed.proofs.LogTrip.{version-is}
 use Rattle.protocol.specs.Vaults.{newVault, laneOk, vaultOk}
 use Rattle.protocol.specs.States.{noJournal, noPoint, noPoints, noHeld, valid, ready}
@@ -52,8 +52,9 @@ use Rattle.protocol.specs.declared.Held.{Held}
 use Rattle.protocol.specs.declared.State.{State}
 use Rattle.protocol.specs.declared.Store.{Store}
 use Rattle.protocol.specs.declared.Store.the-variants as S
-use Rattle.protocol.proofs.Basis.{Writable, opens, file-opens}
-use Rattle.protocol.proofs.LaidLaws.{AllWritable, laidOut, goOn, follow, replay-laid}
+use Rattle.protocol.proofs.Basis.{Writable, bytesOf, opens, file-opens, empty-file}
+use Rattle.protocol.proofs.LaidLaws.{AllWritable, laidOut, goOn, follow, replay-laid, records-laid}
+use Rattle.protocol.proofs.Apart.{mem-map}
 
 -- ---- the transaction
 
@@ -123,29 +124,15 @@ module _ (key : List ℕ) where
   unfolding run Premises
   by {es = es} v h p g = record { keeps = (h, rw p (g .keeps)); ends = ap (λ (x : World). run key x es) p ∙ g .ends }
 
-  -- a part of a log that opens has 56 bytes at least
-  part-long : (log : List ℕ) (i n : ℕ) (r : Opened) → openRecord (aesGcm key) (take n (drop i log)) ≡ some r → (i + 56 ≤ length log) × (56 ≤ n)
-  unfolding wholeLen
-  part-long log i n r e =
-      let is = opens-legal (aesGcm key) (take n (drop i log)) r e in
-      let low = is .low in
-      let whole = is .whole in
-      let t = length-take n (drop i log) in
-      let d = length-drop i log in
-      (omega arith, omega arith)
-
-  -- so an empty log has none that does
-  empty-log : (w : World) (i n : ℕ) (r : Opened) → openRecord (aesGcm key) (take n (drop i [])) ≡ some r → PutOut w (take n (drop i []))
-  empty-log w i n r e = let l = part-long [] i n r e .0 in absurd (omega arith)
-
-  empty-file : (f : OpenedFile) → openFile (aesGcm key) [] ≡ some f → ⊥
-  unfolding openFile legalFile
-  empty-file f e = let z : _≡_ {A = ℕ} 0 1 = cc in absurd (omega arith)
+  -- an empty log has no record
+  empty-log : (w : World) (b : List ℕ) (r : Opened) → List·Memᴰ b (recordsIn []) → openRecord (aesGcm key) b ≡ some r → PutOut w b
+  unfolding recordsIn recordsTo
+  empty-log w b r m e = absurd (List·Memᴰ·not-nil m)
 
   -- one call more of a recovery from an empty card, and then the others
   by-empty : {w : World} {es : List Event} {u : World} (v : World) → next key w fromEmpty ≡ v → Goes v es u → Goes w (fromEmpty ∷ es) u
   unfolding Honest
-  by-empty {w} v p g = by v (empty-log w, λ f e. absurd (empty-file f e)) p g
+  by-empty {w} v p g = by v (empty-log w, λ f e. absurd (empty-file key f e)) p g
 
   -- ---- the worlds on the way
 
@@ -379,26 +366,47 @@ module _ (key : List ℕ) where
       subst (λ (w : World). FaithfulFile (settled w .vault .s) (settled w .card) (newerFile key)) (sym (go-all long .ends))
       (List·Memᴰ·tail (List·Memᴰ·head refl), version-is (aesGcm key) 2 2 emptyTable (omega arith))
 
-  -- ---- the cards and the premises: whatever opens of these three was put out. Of the doubled record this is not claimed: its parts may begin
-  -- and end within the ciphertext.
+  -- ---- the cards and the premises: whatever opens of these four was put out
 
   record-long : length (recordOf key) ≡ 56
   unfolding text
   record-long = length-record key 0 0 1 text
 
-  -- a part of the record's bytes that opens is all of them
-  whole-record : (i n : ℕ) (r : Opened) → openRecord (aesGcm key) (take n (drop i (recordOf key))) ≡ some r → take n (drop i (recordOf key)) ≡ recordOf key
-  whole-record i n r e =
-      let l = record-long in
-      let p = part-long (recordOf key) i n r e in
-      let p0 = p .0 in
-      let p1 = p .1 in
-      let first : i ≡ 0 = omega arith in
-      rw first (take-all n (recordOf key) (omega arith))
+  -- the record alone, and doubled, are records end to end
+  one-laid : laidOut key (onlyRecord ∷ []) ≡ recordOf key
+  unfolding laidOut onlyRecord
+  one-laid = append-nil (recordOf key)
 
-  record-parts : (c : Option State) (i n : ℕ) (r : Opened) → openRecord (aesGcm key) (take n (drop i (recordOf key))) ≡ some r → PutOut (final c) (take n (drop i (recordOf key)))
+  two-laid : laidOut key (onlyRecord ∷ onlyRecord ∷ []) ≡ doubledLog key
+  unfolding laidOut onlyRecord
+  two-laid = ap (λ (s : List ℕ). recordOf key ++ s) (append-nil (recordOf key))
+
+  -- records that are all the one, end to end
+  all-only : (rs : List Opened) → ((r : Opened) → List·Memᴰ r rs → r ≡ onlyRecord) → (log : List ℕ) → laidOut key rs ≡ log → (b : List ℕ) → List·Memᴰ b (recordsIn log) → b ≡ recordOf key
+  unfolding recordsIn onlyRecord
+  all-only rs h log e b m =
+      let fine : AllWritable rs = λ r k. rw (h r k) only-writable in
+      let is : recordsIn log ≡ map (bytesOf key) rs = ap recordsIn (sym e) ∙ records-laid key rs (length (laidOut key rs)) fine (omega arith) in
+      let x = mem-map (bytesOf key) rs b (rw is at m) in
+      x .2 ∙ ap (bytesOf key) (h (x .0) (x .1))
+
+  only-one : (r : Opened) → List·Memᴰ r (onlyRecord ∷ []) → r ≡ onlyRecord
+  only-one r m = List·Memᴰ·eq-of-singleton m
+
+  only-two : (r : Opened) → List·Memᴰ r (onlyRecord ∷ onlyRecord ∷ []) → r ≡ onlyRecord
+  only-two r m = go (List·Memᴰ·cases-cons m)
+    where
+      go : (r ≡ onlyRecord) ⊎ List·Memᴰ r (onlyRecord ∷ []) → r ≡ onlyRecord
+      go (inl e) = e
+      go (inr k) = only-one r k
+
+  -- and that was put out
+  put-only : (c : Option State) (b : List ℕ) → b ≡ recordOf key → PutOut (final c) b
   unfolding final lasts only
-  record-parts c i n r e = rw (whole-record i n r e) (List·Memᴰ·head refl)
+  put-only c b e = rw e (List·Memᴰ·head refl)
+
+  record-parts : (c : Option State) (b : List ℕ) (r : Opened) → List·Memᴰ b (recordsIn (recordOf key)) → openRecord (aesGcm key) b ≡ some r → PutOut (final c) b
+  record-parts c b r m e = put-only c b (all-only (onlyRecord ∷ []) only-one (recordOf key) one-laid b m)
 
   fits : length key ≡ 16 → (e : Event) → Honest key (final (some (cold key))) e → Honest key (run key newWorld (events key)) e
   fits long e h = subst (λ (w : World). Honest key w e) (sym (go-all long .ends)) h
@@ -416,6 +424,12 @@ module _ (key : List ℕ) where
   old-fits long room =
       fits long (call (callRecover (olderFile key) (recordOf key) room)) (record-parts (some (cold key)), λ f e. List·Memᴰ·tail (List·Memᴰ·tail (List·Memᴰ·head refl)))
 
+  pub doubled-fits : length key ≡ 16 → (room : ℕ) → Honest key (run key newWorld (events key)) (call (callRecover (newerFile key) (doubledLog key) room))
+  unfolding Honest final lasts newer
+  doubled-fits long room =
+      fits long (call (callRecover (newerFile key) (doubledLog key) room))
+      (λ b r m e. put-only (some (cold key)) b (all-only (onlyRecord ∷ onlyRecord ∷ []) only-two (doubledLog key) two-laid b m), λ f e. List·Memᴰ·tail (List·Memᴰ·head refl))
+
   -- ---- what is said to the cards
 
   newer-opens : openFile (aesGcm key) (newerFile key) ≡ some (record { version = 2; seal = 2; table = emptyTable })
@@ -432,15 +446,6 @@ module _ (key : List ℕ) where
   with-older : (log : List ℕ) (room : ℕ) → length log ≤ logMax → recover (cold key) (olderFile key) log room ≡ refusing (cold key) 12 []
   unfolding cold loaded lastVault recover recoverPhase recoverFirst recoverFrom recoverFile otherVersion refuse valid vaultOk laneOk allBelow spent
   with-older log room h = rw (le-ltb logMax (length log) h, older-opens)
-
-  -- the record alone, and doubled, are records end to end
-  one-laid : laidOut key (onlyRecord ∷ []) ≡ recordOf key
-  unfolding laidOut onlyRecord
-  one-laid = append-nil (recordOf key)
-
-  two-laid : laidOut key (onlyRecord ∷ onlyRecord ∷ []) ≡ doubledLog key
-  unfolding laidOut onlyRecord
-  two-laid = ap (λ (s : List ℕ). recordOf key ++ s) (append-nil (recordOf key))
 
   replay-one : replay (aesGcm key) lastVault emptyTable (recordOf key) ≡ reading (record { offset = 56; last = 1 ∷ replicate 7 0; table = entered emptyTable text 0 1 })
   unfolding follow goOn stepOpened passedOver orStop behind ended missingFrom orMissing onlyRecord lastVault text

@@ -102,12 +102,18 @@ module _ (key : List ℕ) where
   abbrev pub CardHasAFile : Type 0
   CardHasAFile = (es : List Event) → Listed es → (file : List ℕ) × FaithfulFile (settled (after es) .vault .s) (settled (after es) .card) file
 
+  -- and what it hands over keeps to the premises: neither half of the claim is without the other
+  abbrev pub FaithfulCardIsHonest : Type 0
+  FaithfulCardIsHonest = (es : List Event) → Listed es → (file : List ℕ) (room : ℕ) → FaithfulFile (settled (after es) .vault .s) (settled (after es) .card) file
+      → Honest key (after es) (call (callRecover file (faithfulLog (settled (after es) .card)) room))
+
   pub record Claim : Type 0 where
     pub table-is-the-books : TableIsTheBooks
     pub latest-is-one : LatestIsOne
     pub faithful-card-is-taken : FaithfulCardIsTaken
     pub load-is-taken : LoadIsTaken
     pub card-has-a-file : CardHasAFile
+    pub faithful-card-is-honest : FaithfulCardIsHonest
 
   -- ---- beside it
 

@@ -6,10 +6,10 @@ use mathlib.Core.Bool.{Bool, true, false, cond}
 use mathlib.Core.List.{List, [], _∷_, _++_, map, List·Memᴰ}
 use mathlib.Core.Option.{Option, some, none}
 use lib.Dec.{leb}
-use lib.ListN.{take, drop}
 use Rattle.octets.specs.Lists.{at}
 use Rattle.sealed.specs.Aead.{aesGcm}
 use Rattle.sealed.specs.Record.{recordKind, Opened, openRecord}
+use Rattle.sealed.specs.Log.{recordsIn}
 use Rattle.sealed.specs.Checkpoint.{fileKind, OpenedFile, versionOf, openFile}
 use Rattle.protocol.specs.Vaults.{newVault, setW, setV, setR, setE, setS, setN}
 use Rattle.protocol.specs.Said.{Said, refused, taken, Answered}
@@ -250,8 +250,8 @@ isTaken (refused n vs) = false
 isTaken (taken st n) = true
 
 -- "Every accepted Load gets the vault's numbers and the one key." "The bytes handed to Commit and Recover are any, but whatever of them opens
--- as a record or checkpoint was put out by an earlier Seal, Checkpoint or Recover of the list": the whole of Commit's bytes, every part of
--- the log, the whole checkpoint. A transaction is bytes: each of its numbers is below 256.
+-- as a record or checkpoint was put out by an earlier Seal, Checkpoint or Recover of the list": the whole of Commit's bytes, the whole records
+-- that a reading of the log from its first byte meets, the whole checkpoint. A transaction is bytes: each of its numbers is below 256.
 unfoldable pub Honest : List ℕ → World → Event → Type 0
 Honest key w (call (callLoad x k)) = isTaken (load x k .said) ≡ true → (x ≡ settled w .vault) × (k ≡ key)
 Honest key w (call (callAccept text lane position)) = (i : ℕ) → at text i < 256
@@ -261,7 +261,7 @@ Honest key w (call (callPoint position)) = Unit {0}
 Honest key w (call (callCheckpoint room)) = Unit {0}
 Honest key w (call (callTruncate position)) = Unit {0}
 Honest key w (call (callRecover file log room)) =
-    ((i n : ℕ) (r : Opened) → openRecord (aesGcm key) (take n (drop i log)) ≡ some r → PutOut w (take n (drop i log)))
+    ((b : List ℕ) (r : Opened) → List·Memᴰ b (recordsIn log) → openRecord (aesGcm key) b ≡ some r → PutOut w b)
     × ((f : OpenedFile) → openFile (aesGcm key) file ≡ some f → PutOut w file)
 Honest key w (cut b) = Unit {0}
 
