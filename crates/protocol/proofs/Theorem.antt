@@ -35,6 +35,7 @@ use Rattle.protocol.specs.declared.Phase.the-variants as F
 use Rattle.protocol.specs.declared.Due.{Due}
 use Rattle.protocol.specs.declared.Due.the-variants as D
 use Rattle.protocol.specs.declared.Store.the-variants as S
+use Rattle.protocol.proofs.Walks.{walk-recover}
 use Rattle.protocol.proofs.VaultLaws.{vault-fine, fine-vault, state-fine, fine-state}
 use Rattle.protocol.proofs.Basis.{Writable, bytesOf, fileOf, file-opens, empty-file}
 use Rattle.protocol.proofs.Latest.{In, Full}
@@ -57,64 +58,15 @@ WarmSaid (taken st n) c = c .phase ≡ F.Cold → ⊥
 abbrev Warm : Answered → Type 0
 Warm a = WarmSaid (a .said) (a .state)
 
-warm-refuse : (b : Bool) (c : State) (n : ℕ) (vs : List ℕ) (a : Answered) → Warm a → Warm (refuse b c n vs a)
-unfolding refuse
-warm-refuse true c n vs a h = tt
-warm-refuse false c n vs a h = h
-
 not-cold : F.Recovering ≡ F.Cold → ⊥
 not-cold e = let z : _≡_ {A = ℕ} 0 1 = cc in omega arith
 
 serving-not-cold : F.Serving ≡ F.Cold → ⊥
 serving-not-cold e = let z : _≡_ {A = ℕ} 0 1 = cc in omega arith
 
-warm-read : (c : State) (rd : Read) → Warm (recoverRead c rd)
-unfolding recoverRead recovered
-warm-read c (stopped n vs) = tt
-warm-read c (reading g) = not-cold
-
-warm-log : (c : State) (log : List ℕ) (t : Table) → Warm (recoverLog c log t)
-unfolding recoverLog
-warm-log c log t = warm-read c _
-
-warm-file : (c : State) (log : List ℕ) (o : Option OpenedFile) → Warm (recoverFile c log o)
-unfolding recoverFile
-warm-file c log none = tt
-warm-file c log (some f) = warm-refuse _ c 12 [] _ (warm-log c log _)
-
-warm-from : (c : State) (file log : List ℕ) → Warm (recoverFrom c file log)
-unfolding recoverFrom
-warm-from c file log = go (eqb (c .vault .s) 0)
-  where
-    go : (b : Bool) → Warm (cond b (refuse (not (eqb (length file) 0)) c 9 (0 ∷ []) (recoverLog c log emptyTable)) (recoverFile c log (openFile (aesGcm (c .key)) file)))
-    go true = warm-refuse _ c 9 _ _ (warm-log c log _)
-    go false = warm-file c log _
-
-warm-due : (c : State) (room : ℕ) (du : Due) → c .phase ≡ F.Recovering → Warm (recoverDue c room du)
-unfolding recoverDue inService
-warm-due c room D.RecoverSeal e = warm-refuse _ c 1 [] _ (λ f. not-cold (sym e ∙ f))
-warm-due c room (D.RecoverFile b) e = warm-refuse _ c 1 [] _ (warm-refuse _ c 3 _ _ (λ f. not-cold (sym e ∙ f)))
-warm-due c room (D.RecoverVersion b) e = warm-refuse _ c 1 [] _ (λ f. not-cold (sym e ∙ f))
-warm-due c room (D.RecoverR l) e = warm-refuse _ c 1 [] _ (λ f. not-cold (sym e ∙ f))
-warm-due c room D.RecoverEpoch e = warm-refuse _ c 1 [] _ (λ f. not-cold (sym e ∙ f))
-warm-due c room (D.RecoverV l) e = warm-refuse _ c 1 [] _ (λ f. not-cold (sym e ∙ f))
-warm-due c room D.RecoverEmpty e = serving-not-cold
-warm-due c room D.Nothing e = tt
-warm-due c room D.Record e = tt
-warm-due c room D.File e = tt
-warm-due c room D.Version e = tt
-warm-due c room (D.TruncateR l p) e = tt
-warm-due c room (D.TruncateDelete p) e = tt
-
-warm-phase : (c : State) (file log : List ℕ) (room : ℕ) (ph : Phase) → c .phase ≡ ph → Warm (recoverPhase c file log room ph)
-unfolding recoverPhase recoverFirst
-warm-phase c file log room F.Cold e = warm-refuse _ c 1 [] _ (warm-refuse _ c 3 _ _ (warm-refuse _ c 8 [] _ (warm-from c file log)))
-warm-phase c file log room F.Recovering e = warm-refuse _ c 1 [] _ (warm-due c room (c .due) e)
-warm-phase c file log room F.Serving e = tt
-
 warm : (c : State) (file log : List ℕ) (room : ℕ) → Warm (recover c file log room)
-unfolding recover
-warm c file log room = warm-phase c file log room (c .phase) refl
+unfolding recovered inService
+warm c file log room = walk-recover Warm c (λ n vs. tt) file log room (λ t. not-cold) (λ e x d st out f. not-cold (sym e ∙ f)) serving-not-cold
 
 module _ (key : List ℕ) where
   -- ---- the table
