@@ -99,11 +99,11 @@ rising-snoc (y ∷ ys) x h r = (λ z m. go z (List·Memᴰ·append-cases ys m), 
 -- ---- at or above a position
 
 -- the first record is kept or left
-data Cut (p : ℕ) (x : Spot) (xs : List Spot) : Type 0 where
+pub data Cut (p : ℕ) (x : Spot) (xs : List Spot) : Type 0 where
   kept : spotsFrom p (x ∷ xs) ≡ x ∷ spotsFrom p xs → p ≤ x .position → Cut p x xs
   left : spotsFrom p (x ∷ xs) ≡ spotsFrom p xs → x .position < p → Cut p x xs
 
-cut-at : (p : ℕ) (x : Spot) (xs : List Spot) → Cut p x xs
+pub cut-at : (p : ℕ) (x : Spot) (xs : List Spot) → Cut p x xs
 unfolding spotsFrom
 cut-at p x xs = go (leb p (x .position)) refl
   where
@@ -177,7 +177,7 @@ rising-from p (x ∷ xs) r = go (cut-at p x xs) (rising-from p xs (r .1))
     go (left e a) ih = rw e ih
 
 -- from the first record at or above a position on, all are
-rest-from : (p : ℕ) (x : Spot) (xs : List Spot) → Rising (x ∷ xs) → p ≤ x .position → spotsFrom p xs ≡ xs
+pub rest-from : (p : ℕ) (x : Spot) (xs : List Spot) → Rising (x ∷ xs) → p ≤ x .position → spotsFrom p xs ≡ xs
 rest-from p x xs r h = from-all p xs (λ y m. let z = r .0 y m in omega arith)
 
 pub consec-from : (c : ℕ → ℕ) (p : ℕ) (xs : List Spot) → Rising xs → Consec c xs → Consec c (spotsFrom p xs)

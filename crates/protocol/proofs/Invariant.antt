@@ -36,7 +36,7 @@ use Rattle.protocol.specs.Point.{Mark, marksOf}
 use Rattle.protocol.specs.Truncate.{pointsOf, findPoint}
 use Rattle.protocol.specs.Said.{Said, refused, taken, Answered}
 use Rattle.protocol.specs.History.{Lasting, World, Sealing, settled}
-use Rattle.protocol.specs.Claim.{NotLower}
+use Rattle.protocol.specs.Beside.{NotLower}
 use Rattle.protocol.specs.declared.Vault.{Vault}
 use Rattle.protocol.specs.declared.Point.{Point}
 use Rattle.protocol.specs.declared.Points.{Points}

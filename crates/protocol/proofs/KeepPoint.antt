@@ -39,7 +39,7 @@ marks-from p (x ∷ xs) = go (leb p (x .position)) (marks-from p xs)
     go true ih = ap (λ (r : List Mark). markOf x ∷ r) ih
     go false ih = ih
 
-count-map : (l : ℕ) (xs : List Spot) → laneCount l (map markOf xs) ≡ cnt l xs
+pub count-map : (l : ℕ) (xs : List Spot) → laneCount l (map markOf xs) ≡ cnt l xs
 unfolding laneCount cnt
 count-map l [] = refl
 count-map l (x ∷ xs) = rw (count-map l xs)

@@ -35,6 +35,7 @@ pub mod KeepCheckpoint
 pub mod KeepTruncate
 pub mod Apart
 pub mod Runs
+pub mod SinceLaws
 pub mod ServiceLaws
 pub mod Theorem
 pub mod WorkedLaws

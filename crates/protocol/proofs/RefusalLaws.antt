@@ -28,7 +28,7 @@ down c n vs = record { by = (refl, refl) }
 module _ (c : State) where
   pub accept-kept : (text : List ℕ) (lane position : ℕ) → Kept c (accept c text lane position)
   unfolding keptBy
-  accept-kept text lane position = walk-accept (Kept c) c (down c) text lane position (λ r t l p m. record { by = tt })
+  accept-kept text lane position = walk-accept (Kept c) c (down c) text lane position (λ r t l p m w. record { by = tt })
 
   pub seal-kept : (room : ℕ) → Kept c (seal c room)
   unfolding keptBy
@@ -40,7 +40,7 @@ module _ (c : State) where
 
   pub point-kept : (position : ℕ) → Kept c (point c position)
   unfolding keptBy
-  point-kept position = walk-point (Kept c) c (down c) position (λ r p. record { by = tt })
+  point-kept position = walk-point (Kept c) c (down c) position (λ r p n. record { by = tt })
 
   pub checkpoint-kept : (room : ℕ) → Kept c (checkpoint c room)
   unfolding keptBy

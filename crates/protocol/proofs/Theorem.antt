@@ -27,7 +27,8 @@ use Rattle.protocol.specs.Replay.{Read, stopped, reading}
 use Rattle.protocol.specs.Recover.{logMax, spent, recovered, recoverRead, recoverLog, recoverFile, otherVersion, recoverFrom, recoverFirst, recoverDue, recoverPhase, recover, inService}
 use Rattle.protocol.specs.LatestOf.{LatestOf}
 use Rattle.protocol.specs.History.{Event, call, callRecover, World, newWorld, Lasting, settled, done, bookAfter, afterSaid, afterAnswer, answer, answerOf, addsOf, next, isTaken, PutOut, Honest, faithfulLog, FaithfulFile}
-use Rattle.protocol.specs.Claim.{NotLower, longestLog, Unspent, TakenUnlessSpent, HasLatest, after, Listed, TableIsTheBooks, LatestIsOne, FaithfulCardIsTaken, LoadIsTaken, CardHasAFile, FaithfulCardIsHonest, LogIsShort, NoStoreLowers, Beside, Demand3}
+use Rattle.protocol.specs.Beside.{NotLower, longestLog, LogIsShort, NoStoreLowers, Beside}
+use Rattle.protocol.specs.Claim.{Unspent, TakenUnlessSpent, HasLatest, after, Listed, TableIsTheBooks, LatestIsOne, FaithfulCardIsTaken, LoadIsTaken, CardHasAFile, FaithfulCardIsHonest, Demand3}
 use Rattle.protocol.specs.declared.Vault.{Vault}
 use Rattle.protocol.specs.declared.State.{State}
 use Rattle.protocol.specs.declared.Phase.{Phase}
@@ -35,7 +36,7 @@ use Rattle.protocol.specs.declared.Phase.the-variants as F
 use Rattle.protocol.specs.declared.Due.{Due}
 use Rattle.protocol.specs.declared.Due.the-variants as D
 use Rattle.protocol.specs.declared.Store.the-variants as S
-use Rattle.protocol.proofs.Walks.{walk-recover}
+use Rattle.protocol.proofs.Walks.{walk-recover, past-refuse, at-refuse}
 use Rattle.protocol.proofs.VaultLaws.{vault-fine, fine-vault, state-fine, fine-state}
 use Rattle.protocol.proofs.Basis.{Writable, bytesOf, fileOf, file-opens, empty-file}
 use Rattle.protocol.proofs.Latest.{In, Full}
@@ -45,7 +46,7 @@ use Rattle.protocol.proofs.Card.{Spot, recsOf, mem-recs}
 use Rattle.protocol.proofs.Faith.{read-faithful}
 use Rattle.protocol.proofs.Invariant.{Durable, vaultTo, Durably, Cold, Service, LinkedAt, Linked, LinkedIf, Apart, Invariant, GoodSaid, known, At}
 use Rattle.protocol.proofs.TallyLaws.{left-of, recovery-tally}
-use Rattle.protocol.proofs.ServiceLaws.{vault-ok, nine, three}
+use Rattle.protocol.proofs.ServiceLaws.{vault-ok, accepts, seals, commits, points, keeps, counts, nine, three}
 use Rattle.protocol.proofs.Apart.{mem-map, map-mem, faithful-log}
 use Rattle.protocol.proofs.Runs.{trusted, GoodIf, keep-answer, next-invariant, listed-invariant}
 
@@ -102,17 +103,6 @@ module _ (key : List ℕ) where
 
   -- ---- the faithful card
 
-  -- what a call says where a refusal is passed by, and where it decides
-  past-refuse : (b : Bool) (c : State) (n : ℕ) (vs : List ℕ) (a : Answered) (x : Said) → b ≡ false → a .said ≡ x → refuse b c n vs a .said ≡ x
-  unfolding refuse
-  past-refuse true c n vs a x e f = clash e
-  past-refuse false c n vs a x e f = f
-
-  at-refuse : (b : Bool) (c : State) (n : ℕ) (vs : List ℕ) (a : Answered) (x : Said) → a .said ≡ x → refuse b c n vs a .said ≡ cond b (refused n vs) x
-  unfolding refuse
-  at-refuse true c n vs a x f = refl
-  at-refuse false c n vs a x f = f
-
   -- a faithful log is read to its end
   live-log : (c : State) (d : Durable) (t : Table) → c .key ≡ key → Durably (At c d) → recoverLog c (laidOut key (recsOf (d .spots))) t .said ≡ taken (S.N (suc (c .vault .n))) 0
   unfolding recoverLog recoverRead
@@ -157,7 +147,7 @@ module _ (key : List ℕ) where
       let ll = log-short (At c d) i in
       past-refuse _ c 1 [] _ _ (rw (cold-valid c (vault-ok (At c d) i) k))
       (past-refuse _ c 3 (logMax ∷ []) _ _ (le-ltb logMax (length (laidOut key (recsOf (d .spots)))) (omega arith))
-      (at-refuse (spent (c .vault)) c 8 [] _ _ (live-file c d a (c .vault .s) file refl (k .key-is) i h f)))
+      (at-refuse (spent (c .vault)) _ c 8 [] _ _ refl (live-file c d a (c .vault .s) file refl (k .key-is) i h f)))
 
   -- with the state's own numbers, and then the vault's
   live-at : (c : State) (d : Durable) (a : Lasting) (file : List ℕ) (room : ℕ) → c .phase ≡ F.Cold → Durably d → Linked key c d → Apart key a d → FaithfulFile (a .vault .s) (a .card) file
@@ -288,4 +278,4 @@ pub demand-3 : Demand3
 demand-3 key long = record { table-is-the-books = safe key; latest-is-one = one key; faithful-card-is-taken = live key; load-is-taken = loads key long; card-has-a-file = files key; faithful-card-is-honest = honest key }
 
 pub beside : (key : List ℕ) → Beside key
-beside key = record { log-is-short = short key; no-store-lowers = rises key; recovers = recovery-tally; truncates-nine = nine key; checkpoints-three = three key }
+beside key = record { log-is-short = short key; no-store-lowers = rises key; recovers = recovery-tally; accept-says = accepts key; seals-the-accepted = seals key; commit-takes = commits key; point-says = points key; point-is-kept = keeps key; points-count = counts key; truncates-nine = nine key; checkpoints-three = three key }

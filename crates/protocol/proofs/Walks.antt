@@ -2,7 +2,7 @@
 -- So a predicate of answers that holds of the refusals and of the endings holds of the operation.
 -- Assumes nothing.
 use Prim.Native.Nat.{ℕ, suc}
-use mathlib.Core.Path.{_≡_, refl}
+use mathlib.Core.Path.{_≡_, refl, sym}
 use mathlib.Core.Bool.{Bool, true, false, cond, not, _&&_, _||_}
 use mathlib.Core.List.{List, [], _∷_}
 use mathlib.Core.Option.{Option, some, none}
@@ -12,12 +12,13 @@ use Rattle.octets.specs.Lists.{at}
 use Rattle.reading.specs.Transaction.{legal}
 use Rattle.table.specs.declared.Table.{Table}
 use Rattle.table.specs.Table.{lanes, emptyTable}
+use Rattle.table.proofs.OrderLaws.{clash}
 use Rattle.sealed.specs.Aead.{aesGcm}
 use Rattle.sealed.specs.Record.{Opened, openRecord}
 use Rattle.sealed.specs.Checkpoint.{OpenedFile, openFile}
 use Rattle.protocol.specs.Vaults.{counterMax, vaultOk}
 use Rattle.protocol.specs.States.{listed, pointsMax, ready, withVault, withPoints}
-use Rattle.protocol.specs.Said.{Answered, refusing, taking, refuse}
+use Rattle.protocol.specs.Said.{Said, refused, Answered, refusing, taking, refuse}
 use Rattle.protocol.specs.Load.{keyLen, loaded, blank, load}
 use Rattle.protocol.specs.Accept.{tooLow, accepted, accept, heldRecord, holds, seal}
 use Rattle.protocol.specs.Commit.{committed, outOfTurn, commitOpened, commit}
@@ -48,12 +49,12 @@ module _ (P : Answered → Type 0) (c : State) (down : (n : ℕ) (vs : List ℕ)
   either false p q hp hq = hq
 
   pub walk-accept : (text : List ℕ) (lane position : ℕ)
-      → (not (ready c) ≡ false → not (legal text) ≡ false → leb lanes lane ≡ false → tooLow (c .points) (c .journal) position ≡ false → leb listed (c .journal .count) ≡ false
+      → (not (ready c) ≡ false → not (legal text) ≡ false → leb lanes lane ≡ false → tooLow (c .points) (c .journal) position ≡ false → leb listed (c .journal .count) ≡ false → leb counterMax (at (c .vault .w) lane) ≡ false
       → P (taking (accepted c text lane position) (S.W lane (suc (at (c .vault .w) lane))) []))
       → P (accept c text lane position)
   unfolding accept
   walk-accept text lane position h =
-      past _ 1 [] _ (λ r. past _ 4 [] _ (λ t. past _ 5 [] _ (λ l. past _ 6 [] _ (λ p. past _ 7 [] _ (λ m. past _ 8 [] _ (λ w. h r t l p m))))))
+      past _ 1 [] _ (λ r. past _ 4 [] _ (λ t. past _ 5 [] _ (λ l. past _ 6 [] _ (λ p. past _ 7 [] _ (λ m. past _ 8 [] _ (λ w. h r t l p m w))))))
 
   pub walk-seal : (room : ℕ) → P (taking (withVault c (c .vault) D.Nothing) (S.Record (c .held .position)) (heldRecord c)) → P (seal c room)
   unfolding seal
@@ -69,10 +70,10 @@ module _ (P : Answered → Type 0) (c : State) (down : (n : ℕ) (vs : List ℕ)
   walk-commit bytes h = past _ 1 [] _ (λ r. walk-opened _ h)
 
   pub walk-point : (position : ℕ)
-      → (not (ready c) ≡ false → (c .points .any && leb position (c .points .newest)) ≡ false → P (taking (pointed c position) S.Nothing []))
+      → (not (ready c) ≡ false → (c .points .any && leb position (c .points .newest)) ≡ false → leb pointsMax (c .points .count) ≡ false → P (taking (pointed c position) S.Nothing []))
       → P (point c position)
   unfolding point
-  walk-point position h = past _ 1 [] _ (λ r. past _ 6 [] _ (λ p. past _ 7 [] _ (λ n. past _ 15 [] _ (λ u. h r p))))
+  walk-point position h = past _ 1 [] _ (λ r. past _ 6 [] _ (λ p. past _ 7 [] _ (λ n. past _ 15 [] _ (λ u. h r p n))))
 
   -- the longer operations: a store that leaves all but the vault's numbers and the due store, or the last one
   module _ (stored : (x : Vault) (d : Due) (st : Store) (out : List ℕ) → P (taking (withVault c x d) st out)) where
@@ -187,3 +188,17 @@ module _ (P : Answered → Type 0) (c : State) (down : (n : ℕ) (vs : List ℕ)
 pub walk-load : (P : Answered → Type 0) → ((n : ℕ) (vs : List ℕ) → P (refusing blank n vs)) → (x : Vault) (key : List ℕ) → P (taking (loaded x key) S.Nothing []) → P (load x key)
 unfolding load
 walk-load P down x key h = past P blank down _ 2 [] _ (λ v. past P blank down _ 3 (keyLen ∷ []) _ (λ l. h))
+
+-- ---- what a call says where a test is passed, and where it decides
+
+pub past-refuse : (b : Bool) (c : State) (n : ℕ) (vs : List ℕ) (a : Answered) (x : Said) → b ≡ false → a .said ≡ x → refuse b c n vs a .said ≡ x
+unfolding refuse
+past-refuse true c n vs a x e f = clash e
+past-refuse false c n vs a x e f = f
+
+pub at-refuse : (b d : Bool) (c : State) (n : ℕ) (vs : List ℕ) (a : Answered) (x : Said) → b ≡ d → a .said ≡ x → refuse b c n vs a .said ≡ cond d (refused n vs) x
+unfolding refuse
+at-refuse true true c n vs a x e f = refl
+at-refuse false false c n vs a x e f = f
+at-refuse true false c n vs a x e f = clash e
+at-refuse false true c n vs a x e f = clash (sym e)

@@ -1,55 +1,26 @@
--- Demand 3, as 01's section on the list, the book and the card has it: one claim about the whole list (Claim), and what is said beside it
--- (Beside). The proofs are in proofs/Theorem.antt.
+-- Demand 3, as 01's section on the list, the book and the card has it: one claim about the whole list. What is said beside it stands in Beside.
+-- The proof is in proofs/Theorem.antt.
 -- Assumes nothing.
-use Prim.Native.Nat.{ℕ, suc, _+_, _-_, _*_, _^_, _≤_, _<_}
+use Prim.Native.Nat.{ℕ, suc, _-_, _^_, _≤_, _<_}
 use mathlib.Core.Path.{_≡_}
-use mathlib.Core.Bool.{true, false}
-use mathlib.Core.List.{List, [], _∷_}
+use mathlib.Core.Bool.{true}
+use mathlib.Core.List.{List, []}
 use mathlib.Core.Option.{some}
 use lib.ListN.{length, getD}
-use Rattle.sealed.specs.Aead.{aesGcm}
-use Rattle.sealed.specs.Frame.{frameLen}
-use Rattle.sealed.specs.Checkpoint.{fileLen, fileBytes}
-use Rattle.protocol.specs.States.{listed, pointsMax}
-use Rattle.protocol.specs.Said.{Said, refused, taken, taking}
-use Rattle.octets.specs.Lists.{at}
-use Rattle.reading.specs.Transaction.{maxText, meters}
+use Rattle.reading.specs.Transaction.{meters}
 use Rattle.table.specs.declared.Entry.{Entry}
 use Rattle.table.specs.declared.Table.{Table}
-use Rattle.table.specs.Table.{lanes, noEntry}
+use Rattle.table.specs.Table.{noEntry}
 use Rattle.sealed.specs.Record.{Opened}
+use Rattle.protocol.specs.Said.{Said, refused, taken, taking}
 use Rattle.protocol.specs.Load.{keyLen, loaded, load}
-use Rattle.protocol.specs.Truncate.{pointsOf, findPoint, truncate}
-use Rattle.protocol.specs.Checkpoint.{checkpoint}
 use Rattle.protocol.specs.Recover.{recover}
-use Rattle.protocol.specs.Tally.{recoveryStores, truncateStores, checkpointStores, answers, putBy, Names, Serves, Dropped, Covered, Truncates}
 use Rattle.protocol.specs.LatestOf.{LatestOf}
-use Rattle.protocol.specs.History.{Call, Event, call, callRecover, World, newWorld, settled, next, run, isTaken, Honest, Premises, faithfulLog, FaithfulFile}
+use Rattle.protocol.specs.History.{Event, call, callRecover, World, newWorld, settled, next, run, isTaken, Honest, Premises, faithfulLog, FaithfulFile}
 use Rattle.protocol.specs.declared.Vault.{Vault}
-use Rattle.protocol.specs.declared.Point.{Point}
 use Rattle.protocol.specs.declared.State.{State}
 use Rattle.protocol.specs.declared.Phase.the-variants as F
-use Rattle.protocol.specs.declared.Due.the-variants as D
-use Rattle.protocol.specs.declared.Store.{Store}
 use Rattle.protocol.specs.declared.Store.the-variants as S
-
--- the store sets no vault number below what it is
-abbrev pub NotLower : Vault → Store → Type 0
-NotLower x S.Nothing = Unit {0}
-NotLower x (S.W l k) = at (x .w) l ≤ k
-NotLower x (S.V l k) = at (x .v) l ≤ k
-NotLower x (S.R l k) = at (x .r) l ≤ k
-NotLower x (S.E k) = x .e ≤ k
-NotLower x (S.S k) = x .s ≤ k
-NotLower x (S.N k) = x .n ≤ k
-NotLower x (S.Record p) = Unit {0}
-NotLower x S.File = Unit {0}
-NotLower x (S.Delete p) = Unit {0}
-NotLower x S.Empty = Unit {0}
-
--- 128 records from each of 8 points on and 128 before the first, each of the longest
-abbrev pub longestLog : ℕ
-longestLog = (pointsMax + 1) * listed * (maxText + frameLen)
 
 -- no counter is spent: "A spent counter at recovery is S or N above 2^48 − 3, or E at 2^48 − 1."
 pub record Unspent (x : Vault) : Type 0 where
@@ -114,42 +85,6 @@ module _ (key : List ℕ) where
     pub load-is-taken : LoadIsTaken
     pub card-has-a-file : CardHasAFile
     pub faithful-card-is-honest : FaithfulCardIsHonest
-
-  -- ---- beside it
-
-  -- a faithful log is at most as long as the longest: 202,752 of 262,144 bytes
-  abbrev pub LogIsShort : Type 0
-  LogIsShort = (es : List Event) → Listed es → length (faithfulLog (settled (after es) .card)) ≤ longestLog
-
-  -- the vault's numbers only rise: no store that a call names lowers one
-  abbrev pub NoStoreLowers : Type 0
-  NoStoreLowers = (es : List Event) → Listed es → (k : Call) → Honest key (after es) (call k) → NotLower (settled (after es) .vault) (next key (after es) (call k) .pending .store)
-
-  -- the stores of a recovery, from any state: "if any W ≠ V, also E + 1 and V = W for lanes 0 to 7 .. That makes 15 or 24."
-  abbrev pub Recovers : Type 0
-  Recovers = (c : State) (file log : List ℕ) (room : ℕ) → c .phase ≡ F.Cold → isTaken (recover c file log room .said) ≡ true → fileLen ≤ room
-      → (((l : ℕ) → l < lanes → at (c .vault .w) l ≡ at (c .vault .v) l) → Names (λ d. recover d file log room) c (recoveryStores false (c .vault)) Serves)
-      × ((l : ℕ) → l < lanes → (at (c .vault .w) l ≡ at (c .vault .v) l → ⊥) → Names (λ d. recover d file log room) c (recoveryStores true (c .vault)) Serves)
-
-  -- nine calls of Truncate at a covered point name R of lanes 0 to 7 from the point's counts, and then the deletion
-  abbrev pub TruncatesNine : Type 0
-  TruncatesNine = (es : List Event) → Listed es → (c : State) → after es .state ≡ some c → c .phase ≡ F.Serving → c .due ≡ D.Nothing → (position : ℕ) (p : Point)
-      → findPoint position (pointsOf (c .points)) ≡ some p → p .covered ≡ true → Names (λ d. truncate d position) c (truncateStores p) (Dropped c position)
-
-  -- three calls of Checkpoint, where neither S nor N is at the maximum, name N + 1, the file and S + 1; the file is of the whole table with
-  -- version S + 1 and the raised N as seal number; every kept point is then covered, nothing else has changed, and Truncate takes each of them
-  abbrev pub CheckpointsThree : Type 0
-  CheckpointsThree = (es : List Event) → Listed es → (c : State) → after es .state ≡ some c → c .phase ≡ F.Serving → c .due ≡ D.Nothing → c .vault .s < 2 ^ 48 - 1 → c .vault .n < 2 ^ 48 - 1
-      → (room : ℕ) → fileLen ≤ room
-      → Names (λ d. checkpoint d room) c (checkpointStores (c .vault)) (λ d. Covered c d × Truncates c d)
-      × (putBy (answers (λ d. checkpoint d room) 3 c) ≡ [] ∷ fileBytes (aesGcm key) (suc (c .vault .s)) (suc (c .vault .n)) (c .table) ∷ [] ∷ [])
-
-  pub record Beside : Type 0 where
-    pub log-is-short : LogIsShort
-    pub no-store-lowers : NoStoreLowers
-    pub recovers : Recovers
-    pub truncates-nine : TruncatesNine
-    pub checkpoints-three : CheckpointsThree
 
 -- demand 3, for every key of 16 bytes
 abbrev pub Demand3 : Type 0
