@@ -189,9 +189,11 @@ module _ (key : List ℕ) where
   load-at x long v = rw (v, eq-eqb (length key) keyLen long)
 
   pub loads : length key ≡ keyLen → LoadIsTaken key
+  unfolding loaded
   loads long es p =
       let i = listed-invariant key es p in
-      load-at (settled (after key es) .vault) long (ap vaultOk (i .apart′ .vault) ∙ vault-ok (i .after) (i .then))
+      let e = load-at (settled (after key es) .vault) long (ap vaultOk (i .apart′ .vault) ∙ vault-ok (i .after) (i .then)) in
+      (ap (λ (a : Answered). a .said) e, ap (λ (a : Answered). a .state .phase) e)
 
   has-file : (s : ℕ) (d : Durable) (a : Lasting) → d .vault .s ≡ s → Durably d → Apart key a d → (file : List ℕ) × FaithfulFile s (a .card) file
   unfolding FaithfulFile

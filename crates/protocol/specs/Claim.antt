@@ -12,8 +12,8 @@ use Rattle.table.specs.declared.Entry.{Entry}
 use Rattle.table.specs.declared.Table.{Table}
 use Rattle.table.specs.Table.{noEntry}
 use Rattle.sealed.specs.Record.{Opened}
-use Rattle.protocol.specs.Said.{Said, refused, taken, taking}
-use Rattle.protocol.specs.Load.{keyLen, loaded, load}
+use Rattle.protocol.specs.Said.{Said, refused, taken}
+use Rattle.protocol.specs.Load.{keyLen, load}
 use Rattle.protocol.specs.Recover.{recover}
 use Rattle.protocol.specs.LatestOf.{LatestOf}
 use Rattle.protocol.specs.History.{Event, call, callRecover, World, newWorld, settled, next, run, isTaken, Honest, Premises, faithfulLog, FaithfulFile}
@@ -65,9 +65,9 @@ module _ (key : List ℕ) where
       → FaithfulFile (settled (after es) .vault .s) (settled (after es) .card) file
       → TakenUnlessSpent (settled (after es) .vault) (recover c file (faithfulLog (settled (after es) .card)) room .said)
 
-  -- Load takes the vault's numbers after any list, and hands back a cold collector
+  -- Load takes the vault's numbers after any list, names no store, and hands back a cold collector: so there is always one
   abbrev pub LoadIsTaken : Type 0
-  LoadIsTaken = (es : List Event) → Listed es → load (settled (after es) .vault) key ≡ taking (loaded (settled (after es) .vault) key) S.Nothing []
+  LoadIsTaken = (es : List Event) → Listed es → (load (settled (after es) .vault) key .said ≡ taken S.Nothing 0) × (load (settled (after es) .vault) key .state .phase ≡ F.Cold)
 
   -- the card that kept faith has a file of version S where S > 0
   abbrev pub CardHasAFile : Type 0
