@@ -6,7 +6,7 @@
 -- a card that kept faith. SheetLaws: the bench sheet.
 -- Invariant: what holds of every list. StoreLaws: how each invariant takes each store. Listed, Phases: the state's lists, its phase.
 -- KeepRecover, KeepCold, KeepAccept, KeepPoint, KeepCheckpoint, KeepTruncate: each call keeps the invariants. Apart: bytes and what they hold.
--- Runs: every list keeps the invariants. ServiceLaws: what 01 says of a collector in service, after any list. Theorem: demand 3. WorkedLaws: of a worked list, an honest card is taken and hostile ones are refused.
+-- Runs: every list keeps the invariants. ServiceLaws: what 01 says of a collector in service, after any list. Theorem: demand 3. WorkedLaws: of a worked list, an honest card is taken and hostile ones are refused; another has every call, both kinds of cut and a broken recovery.
 pub mod BlankLaws
 pub mod Walks
 pub mod RefusalLaws

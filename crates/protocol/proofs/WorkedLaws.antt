@@ -1,11 +1,12 @@
--- The list of specs/Worked.antt keeps to the premises and leaves a cold collector with one visible record; of it the honest card is taken, and
--- the hostile ones are turned down. So neither half of demand 3 is about nothing. The list is followed event by event, from one world written out
--- to the next, and each step is a computation; what was sealed is never computed, but opens by the round trips of Basis and LaidLaws.
+-- The lists of specs/Worked.antt keep to the premises. The first leaves a cold collector with one visible record; of it the honest card is taken,
+-- and the hostile ones are turned down. The second takes each of the eight calls, is cut twice and recovers by 24 stores. So neither half of demand
+-- 3 is about nothing, and no call is ruled out by a premise. The lists are followed from one world written out to the next, some calls at a
+-- time, and each step is a computation; what was sealed is never computed, but opens by the round trips of Basis and LaidLaws.
 -- Assumes nothing.
-use Prim.Native.Nat.{ℕ, zero, suc, _+_, _≤_, _<_}
+use Prim.Native.Nat.{ℕ, zero, suc, _≤_, _<_}
 use mathlib.Core.Path.{_≡_, refl, sym, ap, subst, _∙_}
 use mathlib.Core.Bool.{Bool, true, false, _&&_}
-use mathlib.Core.List.{List, [], _∷_, _++_, map, append-nil, List·Memᴰ, List·Memᴰ·head, List·Memᴰ·tail, List·Memᴰ·not-nil, List·Memᴰ·cases-cons, List·Memᴰ·eq-of-singleton}
+use mathlib.Core.List.{List, [], _∷_, _++_, map, append-nil, append-assoc, List·Memᴰ, List·Memᴰ·head, List·Memᴰ·tail, List·Memᴰ·not-nil, List·Memᴰ·cases-cons, List·Memᴰ·eq-of-singleton}
 use mathlib.Core.Option.{Option, some, none}
 use mathlib.Core.Logic.{_⊎_, inl, inr}
 use native.Mathlib.Omega.{arith}
@@ -21,8 +22,8 @@ use Rattle.reading.specs.Signed.{signedOf}
 use Rattle.reading.specs.Transaction.{legal, sized, writeCount, stampOf, writeAt, writeIn, lowest, legalWrite}
 use Rattle.table.specs.declared.Table.{Table}
 use Rattle.table.specs.Order.{latest}
-use Rattle.table.specs.Table.{lanes, noEntry, emptyTable, entryOf, entryAt, put, putTo, entered}
-use Rattle.table.proofs.EnteredLaws.{empty-canonical}
+use Rattle.table.specs.Table.{noEntry, emptyTable, entryOf, entryAt, put, putTo, entered}
+use Rattle.table.proofs.EnteredLaws.{empty-canonical, entered-canonical}
 use Rattle.sealed.specs.Aead.{aesGcm}
 use Rattle.sealed.specs.Record.{Opened, recordKind, openRecord}
 use Rattle.sealed.specs.Log.{recordsTo, recordsIn}
@@ -31,17 +32,18 @@ use Rattle.sealed.proofs.RecordTrip.{length-record}
 use Rattle.sealed.proofs.LogTrip.{version-is}
 use Rattle.protocol.specs.Vaults.{newVault, laneOk, vaultOk}
 use Rattle.protocol.specs.States.{noJournal, noPoint, noPoints, noHeld, valid, ready}
-use Rattle.protocol.specs.Said.{refused, taken, Answered, refusing, taking, refuse}
+use Rattle.protocol.specs.Said.{Said, refused, taken, Answered, refusing, taking, refuse}
 use Rattle.protocol.specs.Load.{loaded, load}
 use Rattle.protocol.specs.Accept.{tooLow, listedMore, holding, accepted, accept, heldRecord, holds, seal}
 use Rattle.protocol.specs.Commit.{committed, commitOpened, commit, outOfTurn}
 use Rattle.protocol.specs.Point.{marksTo, marksOf, marksFrom, laneCount, unseenBelow, journalOf, countsAt, pointAt, pointsMore, pointed, point}
 use Rattle.protocol.specs.Checkpoint.{tableFile, coveredPoint, coveredPoints, checkpointed, checkpointDue, checkpoint}
-use Rattle.protocol.specs.Truncate.{pointsOf, findPoint, droppedTo, afterTruncateR, truncateLane, uncovered, truncateFirst, truncateNext, truncateDue, truncate}
+use Rattle.protocol.specs.Truncate.{pointsOf, findPoint, pointsAbove, droppedTo, afterTruncateR, truncateLane, uncovered, truncateFirst, truncateNext, truncateDue, truncate}
 use Rattle.protocol.specs.Replay.{stopped, reading, passedOver, orStop, behind, stepOpened, steps, missingFrom, orMissing, ended, replay}
-use Rattle.protocol.specs.Recover.{logMax, spent, recovered, recoverRead, recoverLog, recoverFile, recoverFrom, recoverFirst, afterVersion, allVisible, afterR, inService, recoverDue, recoverPhase, recover, otherVersion}
-use Rattle.protocol.specs.History.{Event, call, cut, callLoad, callRecover, callAccept, callSeal, callCommit, callPoint, callCheckpoint, callTruncate, Placed, placedFrom, cardAfter, insertPlaced, inOrder, endToEnd, faithfulLog, FaithfulFile, vaultAfter, Sealing, Lasting, World, nothingPending, newLasting, newWorld, bookAfter, done, settled, sealedBy, withSealings, answerOf, firstAnswer, answer, addsOf, afterSaid, afterAnswer, next, run, PutOut, Honest, Premises}
-use Rattle.protocol.specs.Worked.{text, shownEntry, onlyRecord, recordOf, olderFile, newerFile, doubledLog, lastVault, cold, fromEmpty, recovering, events, tidying, allEight, tidyVault}
+use Rattle.protocol.specs.Recover.{logMax, spent, recovered, recoverRead, recoverLog, recoverFile, recoverFrom, recoverFirst, afterVersion, allVisible, afterR, afterV, inService, recoverDue, recoverPhase, recover, otherVersion}
+use Rattle.protocol.specs.History.{Call, Event, call, cut, callLoad, callRecover, callAccept, callSeal, callCommit, callPoint, callCheckpoint, callTruncate, Placed, placedFrom, cardAfter, insertPlaced, inOrder, endToEnd, faithfulLog, FaithfulFile, vaultAfter, Sealing, Lasting, World, nothingPending, newLasting, newWorld, bookAfter, done, settled, sealedBy, withSealings, answerOf, firstAnswer, answer, addsOf, afterSaid, afterAnswer, next, run, PutOut, Honest, Premises}
+use Rattle.protocol.specs.Sheet.{number}
+use Rattle.protocol.specs.Worked.{text, shownEntry, oneReading, onlyRecord, recordOf, olderFile, newerFile, doubledLog, lastVault, cold, recovering, transacting, events, pointing, cutting, cutVault, thirdFile, fromThird, wholeLife, wholeVault, wholeState, shownAt, shownBy, wholeShown}
 use Rattle.protocol.specs.declared.Vault.{Vault}
 use Rattle.protocol.specs.declared.Phase.the-variants as F
 use Rattle.protocol.specs.declared.Due.{Due}
@@ -107,243 +109,352 @@ last-good : vaultOk lastVault ≡ true
 unfolding lastVault vaultOk laneOk allBelow
 last-good = refl
 
+cut-good : vaultOk cutVault ≡ true
+unfolding cutVault vaultOk laneOk allBelow
+cut-good = refl
+
 module _ (key : List ℕ) where
   -- ---- lists that keep to the premises
 
-  -- from one world, events that keep to the premises come to another
-  record Goes (w : World) (es : List Event) (u : World) : Type 0 where
+  -- from one world, events that keep to the premises come to another, and at their calls these numbers are shown
+  record Goes (w : World) (es : List Event) (ns : List ℕ) (u : World) : Type 0 where
     keeps : Premises key w es
+    shows : shownBy key w es ≡ ns
     ends : run key w es ≡ u
 
-  stay : {w : World} → Goes w [] w
+  keeps-both : (w : World) (es fs : List Event) → Premises key w es → Premises key (run key w es) fs → Premises key w (es ++ fs)
   unfolding run Premises
-  stay = record { keeps = tt; ends = refl }
+  keeps-both w [] fs h k = k
+  keeps-both w (e ∷ es) fs h k = (h .0, keeps-both (next key w e) es fs (h .1) k)
 
-  -- one event, and then the others
-  by : {w : World} {e : Event} {es : List Event} {u : World} (v : World) → Honest key w e → next key w e ≡ v → Goes v es u → Goes w (e ∷ es) u
-  unfolding run Premises
-  by {es = es} v h p g = record { keeps = (h, rw p (g .keeps)); ends = ap (λ (x : World). run key x es) p ∙ g .ends }
+  shows-both : (w : World) (es fs : List Event) → shownBy key w (es ++ fs) ≡ shownBy key w es ++ shownBy key (run key w es) fs
+  unfolding run shownBy
+  shows-both w [] fs = refl
+  shows-both w (call k ∷ es) fs =
+      ap (λ (ns : List ℕ). shownAt (answer (w .state) k) ++ ns) (shows-both (next key w (call k)) es fs) ∙ sym (append-assoc (shownAt (answer (w .state) k)) _ _)
+  shows-both w (cut b ∷ es) fs = shows-both (next key w (cut b)) es fs
+
+  ends-both : (w : World) (es fs : List Event) → run key w (es ++ fs) ≡ run key (run key w es) fs
+  unfolding run
+  ends-both w [] fs = refl
+  ends-both w (e ∷ es) fs = ends-both (next key w e) es fs
+
+  -- some events, and then others
+  infixr 5 _then_
+  _then_ : {w v u : World} {es fs : List Event} {ns ms : List ℕ} → Goes w es ns v → Goes v fs ms u → Goes w (es ++ fs) (ns ++ ms) u
+  _then_ {w} {v} {u} {es} {fs} {ns} {ms} g h = record {
+    keeps = keeps-both w es fs (g .keeps) (rw (g .ends) (h .keeps));
+    shows = shows-both w es fs ∙ rw (g .shows, g .ends, h .shows);
+    ends = ends-both w es fs ∙ rw (g .ends) (h .ends);
+  }
+
+  -- a call that may stand again behind itself, taken so many times
+  often : (k : Call) → ((w : World) → Honest key w (call k) → Honest key (next key w (call k)) (call k)) → (n : ℕ) (w : World) → Honest key w (call k) → Premises key w (replicate n (call k))
+  unfolding Premises
+  often k more zero w h = tt
+  often k more (suc n) w h = (h, often k more n (next key w (call k)) (more w h))
+
+  times : (n : ℕ) (k : Call) {w : World} (v : World) → ((w : World) → Honest key w (call k) → Honest key (next key w (call k)) (call k)) → Honest key w (call k)
+      → shownBy key w (replicate n (call k)) ≡ replicate n 0 → run key w (replicate n (call k)) ≡ v → Goes w (replicate n (call k)) (replicate n 0) v
+  times n k {w} v more h shows ends = record { keeps = often k more n w h; shows = shows; ends = ends }
+
+  -- what was put out stays so
+  out-before : (more before : List Sealing) (b : List ℕ) → List·Memᴰ b (map (λ (s : Sealing). s .bytes) before) → List·Memᴰ b (map (λ (s : Sealing). s .bytes) (more ++ before))
+  out-before [] before b m = m
+  out-before (s ∷ more) before b m = List·Memᴰ·tail (out-before more before b m)
+
+  stays-out : (w : World) (k : Call) (b : List ℕ) → PutOut w b → PutOut (next key w (call k)) b
+  unfolding next done afterAnswer afterSaid withSealings
+  stays-out w k b m = go (answer (w .state) k)
+    where
+      said : (a : Answered) (x : Said) → PutOut (afterSaid x (settled w) (w .state) (addsOf key k) (a .state) (a .put)) b
+      said a (refused n vs) = m
+      said a (taken st n) = out-before (sealedBy (a .state) st (a .put)) (w .lasting .sealings) b m
+
+      go : (o : Option Answered) → PutOut (afterAnswer (settled w) (w .state) (addsOf key k) o) b
+      go none = m
+      go (some a) = said a (a .said)
 
   -- an empty log has no record
   empty-log : (w : World) (b : List ℕ) (r : Opened) → List·Memᴰ b (recordsIn []) → openRecord (aesGcm key) b ≡ some r → PutOut w b
   unfolding recordsIn recordsTo
   empty-log w b r m e = absurd (List·Memᴰ·not-nil m)
 
-  -- one call more of a recovery from an empty card, and then the others
-  by-empty : {w : World} {es : List Event} {u : World} (v : World) → next key w fromEmpty ≡ v → Goes v es u → Goes w (fromEmpty ∷ es) u
+  -- such a call is Recover with the empty log and a file that was put out
+  abbrev from : List ℕ → Call
+  from file = callRecover file [] fileLen
+
+  recovers : (n : ℕ) (file : List ℕ) {w : World} (v : World) → ((f : OpenedFile) → openFile (aesGcm key) file ≡ some f → PutOut w file)
+      → shownBy key w (replicate n (call (from file))) ≡ replicate n 0 → run key w (replicate n (call (from file))) ≡ v → Goes w (replicate n (call (from file))) (replicate n 0) v
   unfolding Honest
-  by-empty {w} v p g = by v (empty-log w, λ f e. absurd (empty-file key f e)) p g
+  recovers n file {w} v out shows ends =
+      times n (from file) v (λ w h. (empty-log (next key w (call (from file))), λ f e. stays-out w (from file) file (h .1 f e))) (empty-log w, out) shows ends
 
   -- ---- the worlds on the way
 
-  -- W and V of lane 0, S and N; all else is 0
-  numbers : ℕ → ℕ → ℕ → ℕ → Vault
-  numbers w v s n = record { w = w ∷ replicate 7 0; v = v ∷ replicate 7 0; r = replicate lanes 0; e = 0; s = s; n = n }
+  -- W, V and R of lane 0, E, S and N; all else is 0
+  abbrev numbers : ℕ → ℕ → ℕ → ℕ → ℕ → ℕ → Vault
+  numbers w v r e s n = record { w = w ∷ replicate 7 0; v = v ∷ replicate 7 0; r = r ∷ replicate 7 0; e = e; s = s; n = n }
 
-  -- what was sealed
-  older : Sealing
-  older = record { kind = fileKind; lane = 0; number = 1; bytes = olderFile key }
-
-  newer : Sealing
-  newer = record { kind = fileKind; lane = 0; number = 2; bytes = newerFile key }
-
-  only : Sealing
+  -- what was sealed: the record, and the files, which have their versions for seal numbers
+  abbrev only : Sealing
   only = record { kind = recordKind; lane = 0; number = 1; bytes = recordOf key }
+
+  abbrev filed : ℕ → Table → Sealing
+  filed s t = record { kind = fileKind; lane = 0; number = s; bytes = fileBytes (aesGcm key) s s t }
+
+  -- what lasts: the numbers, the records and the files on the card, the book, what was sealed
+  abbrev lasts : Vault → List Placed → List (List ℕ) → List Opened → List Sealing → Lasting
+  lasts x records files book sealings = record { vault = x; card = record { records = records; files = files }; book = book; sealings = sealings }
+
+  -- with a store pending that adds nothing to the book
+  abbrev pends : Lasting → Store → List ℕ → State → World
+  pends d store bytes c = record { lasting = d; pending = record { store = store; bytes = bytes; adds = none }; state = some c }
+
+  -- in a recovery: what lasts, the pending store, the numbers in the state, the store due, the table
+  abbrev midst : Lasting → Store → Vault → Due → Table → World
+  midst d store x due t = pends d store [] (record { vault = x; phase = F.Recovering; due = due; table = t; journal = noJournal; points = noPoints; held = noHeld; key = key })
+
+  abbrev serves : Vault → Due → Table → Journal → Points → Held → State
+  serves x due t j p h = record { vault = x; phase = F.Serving; due = due; table = t; journal = j; points = p; held = h; key = key }
 
   -- the new collector, loaded
   newOne : World
   newOne = record { lasting = newLasting; pending = nothingPending; state = some (loaded newVault key) }
 
-  -- in the midst of the first recovery: numbers in the vault, files, sealings; the store that is pending; numbers in the state, the store due
-  midst : Vault → List (List ℕ) → List Sealing → Store → List ℕ → Vault → Due → World
-  midst x files sealings store bytes y due = record {
-    lasting = record { vault = x; card = record { records = []; files = files }; book = []; sealings = sealings };
-    pending = record { store = store; bytes = bytes; adds = none };
-    state = some (record { vault = y; phase = F.Recovering; due = due; table = emptyTable; journal = noJournal; points = noPoints; held = noHeld; key = key });
-  }
-
-  -- with both files stored, and S: R of the lanes
-  late : Store → Due → World
-  late st due = midst (numbers 0 0 2 2) (olderFile key ∷ newerFile key ∷ []) (newer ∷ older ∷ []) st [] (numbers 0 0 2 2) due
-
-  -- with both files on the card
-  lasts : Vault → List Placed → List Opened → List Sealing → Lasting
-  lasts x records book sealings = record { vault = x; card = record { records = records; files = olderFile key ∷ newerFile key ∷ [] }; book = book; sealings = sealings }
-
-  serves : Vault → Due → Table → Journal → Held → State
-  serves x due t j h = record { vault = x; phase = F.Serving; due = due; table = t; journal = j; points = noPoints; held = h; key = key }
+  -- with both files stored
+  abbrev first : Vault → List Placed → List Opened → List Sealing → Lasting
+  first x records book more = lasts x records (olderFile key ∷ newerFile key ∷ []) book (more ++ (filed 2 emptyTable ∷ filed 1 emptyTable ∷ []))
 
   -- in service; the log is about to be emptied
   begun : World
-  begun = record {
-    lasting = lasts (numbers 0 0 2 2) [] [] (newer ∷ older ∷ []);
-    pending = record { store = S.Empty; bytes = []; adds = none };
-    state = some (serves (numbers 0 0 2 2) D.Nothing emptyTable noJournal noHeld);
-  }
+  begun = pends (first (numbers 0 0 0 0 2 2) [] [] []) S.Empty [] (serves (numbers 0 0 0 0 2 2) D.Nothing emptyTable noJournal noPoints noHeld)
 
   -- the transaction is accepted
   numbered : World
-  numbered = record {
-    lasting = lasts (numbers 0 0 2 2) [] [] (newer ∷ older ∷ []);
-    pending = record { store = S.W 0 1; bytes = []; adds = none };
-    state = some (serves (numbers 1 0 2 2) D.Record emptyTable (listedMore noJournal 0 10) (holding text 0 10));
-  }
+  numbered = pends (first (numbers 0 0 0 0 2 2) [] [] []) (S.W 0 1) [] (serves (numbers 1 0 0 0 2 2) D.Record emptyTable (listedMore noJournal 0 10) noPoints (holding text 0 10))
 
   -- its record is sealed
   written : World
-  written = record {
-    lasting = lasts (numbers 1 0 2 2) [] [] (only ∷ newer ∷ older ∷ []);
-    pending = record { store = S.Record 10; bytes = recordOf key; adds = none };
-    state = some (serves (numbers 1 0 2 2) D.Nothing emptyTable (listedMore noJournal 0 10) (holding text 0 10));
-  }
+  written =
+      pends (first (numbers 1 0 0 0 2 2) [] [] (only ∷ [])) (S.Record 10) (recordOf key)
+      (serves (numbers 1 0 0 0 2 2) D.Nothing emptyTable (listedMore noJournal 0 10) noPoints (holding text 0 10))
+
+  -- the record on the card
+  abbrev placed : Placed
+  placed = record { position = 10; bytes = recordOf key }
 
   -- it is committed
   visible : World
   visible = record {
-    lasting = lasts (numbers 1 0 2 2) (record { position = 10; bytes = recordOf key } ∷ []) [] (only ∷ newer ∷ older ∷ []);
+    lasting = first (numbers 1 0 0 0 2 2) (placed ∷ []) [] (only ∷ []);
     pending = record { store = S.V 0 1; bytes = []; adds = some onlyRecord };
-    state = some (serves (numbers 1 1 2 2) D.Nothing (entered emptyTable text 0 1) (listedMore noJournal 0 10) (holding text 0 10));
+    state = some (serves (numbers 1 1 0 0 2 2) D.Nothing oneReading (listedMore noJournal 0 10) noPoints (holding text 0 10));
   }
 
   -- it is cut, without a state or with the one that is loaded
   final : Option State → World
-  final c = record {
-    lasting = lasts lastVault (record { position = 10; bytes = recordOf key } ∷ []) (onlyRecord ∷ []) (only ∷ newer ∷ older ∷ []);
-    pending = nothingPending;
-    state = c;
-  }
+  final c = record { lasting = first lastVault (placed ∷ []) (onlyRecord ∷ []) (only ∷ []); pending = nothingPending; state = c }
 
   -- ---- from world to world
 
   -- fifteen calls: N, a file, S; the same three again; R of the eight lanes; the log is emptied
-  go-recovering : {es : List Event} {u : World} → Goes begun es u → Goes newOne (recovering ++ es) u
-  unfolding newOne midst late lasts serves begun numbers older newer newLasting newVault loaded next answer answerOf addsOf afterAnswer afterSaid done cardAfter vaultAfter bookAfter withSealings sealedBy recover recoverPhase recoverFirst recoverFrom recoverLog recoverRead recovered recoverDue refuse valid vaultOk laneOk allBelow spent replay steps ended missingFrom orMissing afterVersion afterR allVisible inService tableFile
-  go-recovering g =
-      by-empty (midst (numbers 0 0 0 0) [] [] (S.N 1) [] (numbers 0 0 0 1) (D.RecoverFile false)) refl
-      (by-empty (midst (numbers 0 0 0 1) [] (older ∷ []) S.File (olderFile key) (numbers 0 0 0 1) (D.RecoverVersion false)) refl
-      (by-empty (midst (numbers 0 0 0 1) (olderFile key ∷ []) (older ∷ []) (S.S 1) [] (numbers 0 0 1 1) D.RecoverSeal) refl
-      (by-empty (midst (numbers 0 0 1 1) (olderFile key ∷ []) (older ∷ []) (S.N 2) [] (numbers 0 0 1 2) (D.RecoverFile true)) refl
-      (by-empty (midst (numbers 0 0 1 2) (olderFile key ∷ []) (newer ∷ older ∷ []) S.File (newerFile key) (numbers 0 0 1 2) (D.RecoverVersion true)) refl
-      (by-empty (midst (numbers 0 0 1 2) (olderFile key ∷ newerFile key ∷ []) (newer ∷ older ∷ []) (S.S 2) [] (numbers 0 0 2 2) (D.RecoverR 0)) refl
-      (by-empty (late (S.R 0 0) (D.RecoverR 1)) refl
-      (by-empty (late (S.R 1 0) (D.RecoverR 2)) refl
-      (by-empty (late (S.R 2 0) (D.RecoverR 3)) refl
-      (by-empty (late (S.R 3 0) (D.RecoverR 4)) refl
-      (by-empty (late (S.R 4 0) (D.RecoverR 5)) refl
-      (by-empty (late (S.R 5 0) (D.RecoverR 6)) refl
-      (by-empty (late (S.R 6 0) (D.RecoverR 7)) refl
-      (by-empty (late (S.R 7 0) D.RecoverEmpty) refl
-      (by-empty begun refl g))))))))))))))
+  go-recovering : Goes newOne recovering (replicate 15 0) begun
+  unfolding run shownBy shownAt number newOne begun newLasting newVault loaded next answer answerOf addsOf afterAnswer afterSaid done cardAfter vaultAfter bookAfter withSealings sealedBy recover recoverPhase recoverFirst recoverFrom recoverLog recoverRead recovered recoverDue refuse valid vaultOk laneOk allBelow spent replay steps ended missingFrom orMissing afterVersion afterR allVisible inService tableFile
+  go-recovering =
+      recovers 6 [] (midst (first (numbers 0 0 0 0 1 2) [] [] []) (S.S 2) (numbers 0 0 0 0 2 2) (D.RecoverR 0) emptyTable) (λ f e. absurd (empty-file key f e)) refl refl
+      then recovers 4 [] (midst (first (numbers 0 0 0 0 2 2) [] [] []) (S.R 3 0) (numbers 0 0 0 0 2 2) (D.RecoverR 4) emptyTable) (λ f e. absurd (empty-file key f e)) refl refl
+      then recovers 4 [] (midst (first (numbers 0 0 0 0 2 2) [] [] []) (S.R 7 0) (numbers 0 0 0 0 2 2) D.RecoverEmpty emptyTable) (λ f e. absurd (empty-file key f e)) refl refl
+      then recovers 1 [] begun (λ f e. absurd (empty-file key f e)) refl refl
 
-  go-accept : {es : List Event} {u : World} → Goes numbered es u → Goes begun (call (callAccept text 0 10) ∷ es) u
-  unfolding Honest lasts serves begun numbered numbers next answer answerOf addsOf afterAnswer afterSaid done cardAfter vaultAfter bookAfter withSealings sealedBy accept accepted ready valid vaultOk laneOk allBelow tooLow refuse
-  go-accept g = by numbered text-bytes (rw text-legal) g
+  go-accept : Goes begun (call (callAccept text 0 10) ∷ []) (0 ∷ []) numbered
+  unfolding run shownBy shownAt number Premises Honest begun numbered next answer answerOf addsOf afterAnswer afterSaid done cardAfter vaultAfter bookAfter withSealings sealedBy accept accepted ready valid vaultOk laneOk allBelow tooLow refuse
+  go-accept = record { keeps = (text-bytes, tt); shows = rw text-legal; ends = rw text-legal }
 
-  go-seal : {es : List Event} {u : World} → Goes written es u → Goes numbered (call (callSeal 56) ∷ es) u
-  unfolding Honest lasts serves numbered written only numbers next answer answerOf addsOf afterAnswer afterSaid done cardAfter vaultAfter bookAfter withSealings sealedBy seal holds heldRecord valid vaultOk laneOk allBelow listedMore holding refuse text legal sized writeCount legalWrite writeAt writeIn lowest little padded
-  go-seal g = by written tt refl g
+  go-seal : Goes numbered (call (callSeal 56) ∷ []) (0 ∷ []) written
+  unfolding run shownBy shownAt number Premises Honest numbered written next answer answerOf addsOf afterAnswer afterSaid done cardAfter vaultAfter bookAfter withSealings sealedBy seal holds heldRecord valid vaultOk laneOk allBelow listedMore holding refuse text legal sized writeCount legalWrite writeAt writeIn lowest little padded
+  go-seal = record { keeps = (tt, tt); shows = refl; ends = refl }
 
   -- what was sealed opens
   only-opens : openRecord (aesGcm key) (recordOf key) ≡ some onlyRecord
   unfolding onlyRecord
   only-opens = opens key onlyRecord only-writable
 
-  go-commit : {es : List Event} {u : World} → Goes visible es u → Goes written (call (callCommit (recordOf key)) ∷ es) u
-  unfolding Honest lasts serves written visible only numbers next answer answerOf addsOf afterAnswer afterSaid done cardAfter vaultAfter bookAfter withSealings sealedBy commit commitOpened outOfTurn committed onlyRecord ready valid vaultOk laneOk allBelow listedMore refuse
-  go-commit g = by visible (λ r e. List·Memᴰ·head refl) (rw only-opens) g
+  go-commit : Goes written (call (callCommit (recordOf key)) ∷ []) (0 ∷ []) visible
+  unfolding run shownBy shownAt number Premises Honest written visible next answer answerOf addsOf afterAnswer afterSaid done cardAfter vaultAfter bookAfter withSealings sealedBy commit commitOpened outOfTurn committed onlyRecord ready valid vaultOk laneOk allBelow listedMore refuse
+  go-commit = record { keeps = (λ r e. List·Memᴰ·head refl, tt); shows = rw only-opens; ends = rw only-opens }
 
-  go-cut : {es : List Event} {u : World} → Goes (final none) es u → Goes visible (cut true ∷ es) u
-  unfolding Honest lasts visible final lastVault numbers next done cardAfter vaultAfter bookAfter
-  go-cut g = by (final none) tt refl g
+  -- good numbers that are the vault's are loaded
+  loads : (x : Vault) (d : Lasting) → d .vault ≡ x → vaultOk x ≡ true → length key ≡ 16
+      → Goes (record { lasting = d; pending = nothingPending; state = none }) (call (callLoad x key) ∷ []) (0 ∷ []) (record { lasting = d; pending = nothingPending; state = some (loaded x key) })
+  unfolding run shownBy shownAt number Premises Honest next answer firstAnswer addsOf afterAnswer afterSaid done cardAfter vaultAfter bookAfter withSealings sealedBy
+  loads x d is good long = record { keeps = (λ e. (sym is, refl), tt); shows = rw (load-taken x key good long); ends = rw (load-taken x key good long) }
 
-  go-load : length key ≡ 16 → Goes (final none) (call (callLoad lastVault key) ∷ []) (final (some (cold key)))
-  unfolding Honest lasts final cold next answer firstAnswer addsOf afterAnswer afterSaid done cardAfter vaultAfter bookAfter withSealings sealedBy
-  go-load long = by (final (some (cold key))) (λ e. (refl, refl)) (rw (load-taken lastVault key last-good long)) stay
+  -- a new collector is put in service, and makes its transaction visible
+  go-visible : length key ≡ 16 → Goes newWorld (call (callLoad newVault key) ∷ (recovering ++ transacting key)) (replicate 19 0) visible
+  unfolding newWorld newLasting newOne
+  go-visible long = loads newVault newLasting refl new-good long then go-recovering then go-accept then go-seal then go-commit
 
-  go-all : length key ≡ 16 → Goes newWorld (events key) (final (some (cold key)))
-  unfolding Honest events newWorld newLasting newOne next answer firstAnswer addsOf afterAnswer afterSaid done cardAfter vaultAfter bookAfter withSealings sealedBy
-  go-all long =
-      by newOne (λ e. (refl, refl)) (rw (load-taken newVault key new-good long)) (go-recovering (go-accept (go-seal (go-commit (go-cut (go-load long))))))
+  go-cut : Goes visible (cut true ∷ []) [] (final none)
+  unfolding run shownBy Premises Honest visible final lastVault next done cardAfter vaultAfter bookAfter
+  go-cut = record { keeps = (tt, tt); shows = refl; ends = refl }
 
-  -- ---- a list with all eight operations, each taken
+  go-all : length key ≡ 16 → Goes newWorld (events key) (replicate 20 0) (final (some (cold key)))
+  unfolding events final cold
+  go-all long = go-visible long then go-cut then loads lastVault _ refl last-good long
+
+  -- ---- the list with every call
 
   -- the point above the record: one number of lane 0 lies below it
   onePoint : Points
   onePoint = record { items = record { position = 20; counts = 1 ∷ replicate 7 0; covered = false } ∷ replicate 7 noPoint; count = 1; any = true; newest = 20 }
 
-  thirdFile : List ℕ
-  thirdFile = fileBytes (aesGcm key) 3 3 (entered emptyTable text 0 1)
+  -- in service, with a store due and points
+  abbrev keeping : Vault → Due → Points → State
+  keeping x due p = serves x due oneReading (journalOf [] true 10) p (holding text 0 10)
 
-  third : Sealing
-  third = record { kind = fileKind; lane = 0; number = 3; bytes = thirdFile }
+  -- the point is set; once more it is refused, and nothing has changed
+  pointSet : World
+  pointSet = pends (first (numbers 1 1 0 0 2 2) (placed ∷ []) (onlyRecord ∷ []) (only ∷ [])) S.Nothing [] (keeping (numbers 1 1 0 0 2 2) D.Nothing onePoint)
 
-  -- with R of lane 0, S and N
-  counted : ℕ → ℕ → ℕ → Vault
-  counted r s n = record { w = 1 ∷ replicate 7 0; v = 1 ∷ replicate 7 0; r = r ∷ replicate 7 0; e = 0; s = s; n = n }
+  -- with the third file stored, and more files behind it
+  abbrev third : Vault → List Placed → List (List ℕ) → List Sealing → Lasting
+  third x records files more = lasts x records (olderFile key ∷ newerFile key ∷ thirdFile key ∷ files) (onlyRecord ∷ []) (more ++ (filed 3 oneReading ∷ only ∷ filed 2 emptyTable ∷ filed 1 emptyTable ∷ []))
 
-  tidied : Vault → List (List ℕ) → List Sealing → Store → List ℕ → Vault → Due → Points → World
-  tidied x more sealings store bytes y due points = record {
-    lasting = record { vault = x; card = record { records = record { position = 10; bytes = recordOf key } ∷ []; files = olderFile key ∷ newerFile key ∷ more }; book = onlyRecord ∷ []; sealings = sealings };
-    pending = record { store = store; bytes = bytes; adds = none };
-    state = some (record { vault = y; phase = F.Serving; due = due; table = entered emptyTable text 0 1; journal = journalOf [] true 10; points = points; held = holding text 0 10; key = key });
-  }
+  -- the checkpoint is done; in the midst of the truncation; it is done
+  checkpointDone : World
+  checkpointDone = pends (third (numbers 1 1 0 0 2 3) (placed ∷ []) [] []) (S.S 3) [] (keeping (numbers 1 1 0 0 3 3) D.Nothing (coveredPoints onePoint))
 
-  -- in the midst of the truncation
-  dropping : ℕ → Store → Due → Points → World
-  dropping r store due points = tidied (counted r 3 3) (thirdFile ∷ []) (third ∷ only ∷ newer ∷ older ∷ []) store [] (counted 1 3 3) due points
+  truncating : Store → Due → World
+  truncating store due = pends (third (numbers 1 1 1 0 3 3) (placed ∷ []) [] []) store [] (keeping (numbers 1 1 1 0 3 3) due (coveredPoints onePoint))
 
-  gone : World
-  gone = dropping 1 (S.Delete 20) D.Nothing (droppedTo (coveredPoints onePoint) 20)
+  truncated : World
+  truncated = pends (third (numbers 1 1 1 0 3 3) (placed ∷ []) [] []) (S.Delete 20) [] (keeping (numbers 1 1 1 0 3 3) D.Nothing (droppedTo (coveredPoints onePoint) 20))
 
-  go-point : {es : List Event} {u : World} → Goes (tidied (counted 0 2 2) [] (only ∷ newer ∷ older ∷ []) S.Nothing [] (counted 0 2 2) D.Nothing onePoint) es u → Goes visible (call (callPoint 20) ∷ es) u
-  unfolding Honest lasts serves visible only numbers counted tidied onePoint next answer answerOf addsOf afterAnswer afterSaid done cardAfter vaultAfter bookAfter withSealings sealedBy point pointed pointAt pointsMore countsAt journalOf marksOf marksTo marksFrom laneCount unseenBelow ready valid vaultOk laneOk allBelow listedMore refuse
-  go-point g = by _ tt refl g
+  -- it is cut behind the second Accept, without a state or with the one that is loaded
+  afterCut : Option State → World
+  afterCut c = record { lasting = third cutVault [] [] []; pending = nothingPending; state = c }
 
-  go-checkpoint : {es : List Event} {u : World} → Goes (tidied (counted 0 2 3) (thirdFile ∷ []) (third ∷ only ∷ newer ∷ older ∷ []) (S.S 3) [] (counted 0 3 3) D.Nothing (coveredPoints onePoint)) es u
-      → Goes (tidied (counted 0 2 2) [] (only ∷ newer ∷ older ∷ []) S.Nothing [] (counted 0 2 2) D.Nothing onePoint) (replicate 3 (call (callCheckpoint fileLen)) ++ es) u
-  unfolding Honest counted tidied third thirdFile next answer answerOf addsOf afterAnswer afterSaid done cardAfter vaultAfter bookAfter withSealings sealedBy checkpoint checkpointDue checkpointed tableFile valid vaultOk laneOk allBelow journalOf onePoint refuse
-  go-checkpoint g =
-      by (tidied (counted 0 2 2) [] (only ∷ newer ∷ older ∷ []) (S.N 3) [] (counted 0 2 3) D.File onePoint) tt refl
-      (by (tidied (counted 0 2 3) [] (third ∷ only ∷ newer ∷ older ∷ []) S.File thirdFile (counted 0 2 3) D.Version onePoint) tt refl
-      (by _ tt refl g))
+  -- recovery is accepted
+  accepting : World
+  accepting = midst (third cutVault [] [] []) (S.N 4) (numbers 2 1 1 0 3 4) (D.RecoverFile false) oneReading
 
-  go-truncate : Goes (tidied (counted 0 2 3) (thirdFile ∷ []) (third ∷ only ∷ newer ∷ older ∷ []) (S.S 3) [] (counted 0 3 3) D.Nothing (coveredPoints onePoint)) (replicate 9 (call (callTruncate 20))) gone
-  unfolding Honest counted tidied dropping gone next answer answerOf addsOf afterAnswer afterSaid done cardAfter vaultAfter bookAfter withSealings sealedBy truncate truncateDue truncateFirst truncateNext truncateLane afterTruncateR uncovered findPoint pointsOf coveredPoints coveredPoint valid vaultOk laneOk allBelow journalOf onePoint refuse
+  -- with all five files stored
+  abbrev fifth : Vault → Lasting
+  fifth x = third x [] (fileBytes (aesGcm key) 4 4 oneReading ∷ fileBytes (aesGcm key) 5 5 oneReading ∷ []) (filed 5 oneReading ∷ filed 4 oneReading ∷ [])
+
+  -- in service again; the log is about to be emptied
+  wholeWorld : World
+  wholeWorld = pends (fifth wholeVault) S.Empty [] (wholeState key)
+
+  go-point : Goes visible (call (callPoint 20) ∷ []) (0 ∷ []) pointSet
+  unfolding run shownBy shownAt number Premises Honest visible pointSet onePoint next answer answerOf addsOf afterAnswer afterSaid done cardAfter vaultAfter bookAfter withSealings sealedBy point pointed pointAt pointsMore countsAt journalOf marksOf marksTo marksFrom laneCount unseenBelow ready valid vaultOk laneOk allBelow listedMore refuse
+  go-point = record { keeps = (tt, tt); shows = refl; ends = refl }
+
+  -- behind it the same point is refused
+  go-refused : Goes pointSet (call (callPoint 20) ∷ []) (6 ∷ []) pointSet
+  unfolding run shownBy shownAt number Premises Honest pointSet onePoint next answer answerOf addsOf afterAnswer afterSaid done cardAfter vaultAfter bookAfter point journalOf ready valid vaultOk laneOk allBelow refuse
+  go-refused = record { keeps = (tt, tt); shows = refl; ends = refl }
+
+  go-checkpoint : Goes pointSet (replicate 3 (call (callCheckpoint fileLen))) (replicate 3 0) checkpointDone
+  unfolding run shownBy shownAt number Premises Honest pointSet checkpointDone onePoint next answer answerOf addsOf afterAnswer afterSaid done cardAfter vaultAfter bookAfter withSealings sealedBy checkpoint checkpointDue checkpointed tableFile valid vaultOk laneOk allBelow journalOf refuse
+  go-checkpoint = times 3 (callCheckpoint fileLen) checkpointDone (λ w h. tt) tt refl refl
+
+  go-truncate : Goes checkpointDone (replicate 9 (call (callTruncate 20))) (replicate 9 0) truncated
+  unfolding run shownBy shownAt number Premises Honest checkpointDone truncating truncated onePoint next answer answerOf addsOf afterAnswer afterSaid done cardAfter vaultAfter bookAfter withSealings sealedBy truncate truncateDue truncateFirst truncateNext truncateLane afterTruncateR uncovered findPoint pointsOf coveredPoints coveredPoint valid vaultOk laneOk allBelow journalOf refuse
   go-truncate =
-      let ps = coveredPoints onePoint in
-      by (dropping 0 (S.R 0 1) (D.TruncateR 1 20) ps) tt refl
-      (by (dropping 1 (S.R 1 0) (D.TruncateR 2 20) ps) tt refl
-      (by (dropping 1 (S.R 2 0) (D.TruncateR 3 20) ps) tt refl
-      (by (dropping 1 (S.R 3 0) (D.TruncateR 4 20) ps) tt refl
-      (by (dropping 1 (S.R 4 0) (D.TruncateR 5 20) ps) tt refl
-      (by (dropping 1 (S.R 5 0) (D.TruncateR 6 20) ps) tt refl
-      (by (dropping 1 (S.R 6 0) (D.TruncateR 7 20) ps) tt refl
-      (by (dropping 1 (S.R 7 0) (D.TruncateDelete 20) ps) tt refl
-      (by gone tt refl stay))))))))
+      times 3 (callTruncate 20) (truncating (S.R 2 0) (D.TruncateR 3 20)) (λ w h. tt) tt refl refl
+      then times 3 (callTruncate 20) (truncating (S.R 5 0) (D.TruncateR 6 20)) (λ w h. tt) tt refl refl
+      then times 3 (callTruncate 20) truncated (λ w h. tt) tt refl refl
 
-  go-eight : length key ≡ 16 → Goes newWorld (allEight key) gone
-  unfolding Honest allEight newWorld newLasting newOne next answer firstAnswer addsOf afterAnswer afterSaid done cardAfter vaultAfter bookAfter withSealings sealedBy
-  go-eight long =
-      by newOne (λ e. (refl, refl)) (rw (load-taken newVault key new-good long)) (go-recovering (go-accept (go-seal (go-commit (go-point (go-checkpoint go-truncate))))))
+  -- the cut comes behind the store of W
+  go-cutting : Goes truncated cutting (0 ∷ []) (afterCut none)
+  unfolding run shownBy shownAt number Premises Honest truncated afterCut cutVault onePoint next answer answerOf addsOf afterAnswer afterSaid done cardAfter vaultAfter bookAfter placedFrom withSealings sealedBy accept accepted ready valid vaultOk laneOk allBelow tooLow droppedTo pointsAbove pointsOf coveredPoints coveredPoint journalOf refuse
+  go-cutting = record { keeps = (text-bytes, (tt, tt)); shows = rw text-legal; ends = rw text-legal }
+
+  -- the file opens, and recovery is accepted
+  third-opens : openFile (aesGcm key) (thirdFile key) ≡ some (record { version = 3; seal = 3; table = oneReading })
+  third-opens =
+      file-opens key (record { version = 3; seal = 3; table = oneReading })
+      (record { canonical = entered-canonical emptyTable text 0 1 text-legal text-bytes (lit< tt) (omega arith) empty-canonical; version = omega arith; seal = omega arith })
+
+  go-accepting : Goes (afterCut (some (loaded cutVault key))) (fromThird key ∷ []) (0 ∷ []) accepting
+  unfolding run shownBy shownAt number afterCut cutVault accepting loaded next answer answerOf addsOf afterAnswer afterSaid done cardAfter vaultAfter bookAfter withSealings sealedBy recover recoverPhase recoverFirst recoverFrom recoverFile otherVersion recoverLog recoverRead recovered refuse valid vaultOk laneOk allBelow spent replay steps ended missingFrom orMissing
+  go-accepting = recovers 1 (thirdFile key) accepting (λ f e. List·Memᴰ·head refl) (rw third-opens) (rw third-opens)
+
+  -- a cut before its store is done breaks it
+  go-broken : Goes accepting (cut false ∷ []) [] (afterCut none)
+  unfolding run shownBy Premises Honest accepting afterCut next
+  go-broken = record { keeps = (tt, tt); shows = refl; ends = refl }
+
+  -- with all five files stored, the third one is among what was put out
+  third-out : PutOut wholeWorld (thirdFile key)
+  unfolding wholeWorld
+  third-out = List·Memᴰ·tail (List·Memᴰ·tail (List·Memᴰ·head refl))
+
+  -- the other twenty-three calls: a file, S; N, a file, S; R of the eight lanes; E; V of the eight lanes; the log is emptied
+  go-completing : Goes accepting (replicate 23 (fromThird key)) (replicate 23 0) wholeWorld
+  unfolding run shownBy shownAt number cutVault accepting wholeWorld wholeVault wholeState next answer answerOf addsOf afterAnswer afterSaid done cardAfter vaultAfter bookAfter withSealings sealedBy recover recoverPhase recoverDue refuse valid vaultOk laneOk allBelow afterVersion afterR afterV allVisible inService tableFile
+  go-completing =
+      recovers 5 (thirdFile key) (midst (fifth (numbers 2 1 1 0 4 5)) (S.S 5) (numbers 2 1 1 0 5 5) (D.RecoverR 0) oneReading) (λ f e. List·Memᴰ·head refl) refl refl
+      then recovers 4 (thirdFile key) (midst (fifth (numbers 2 1 2 0 5 5)) (S.R 3 0) (numbers 2 1 2 0 5 5) (D.RecoverR 4) oneReading) (λ f e. third-out) refl refl
+      then recovers 4 (thirdFile key) (midst (fifth (numbers 2 1 2 0 5 5)) (S.R 7 0) (numbers 2 1 2 0 5 5) D.RecoverEpoch oneReading) (λ f e. third-out) refl refl
+      then recovers 1 (thirdFile key) (midst (fifth (numbers 2 1 2 0 5 5)) (S.E 1) (numbers 2 1 2 1 5 5) (D.RecoverV 0) oneReading) (λ f e. third-out) refl refl
+      then recovers 4 (thirdFile key) (midst (fifth (numbers 2 2 2 1 5 5)) (S.V 3 0) (numbers 2 2 2 1 5 5) (D.RecoverV 4) oneReading) (λ f e. third-out) refl refl
+      then recovers 4 (thirdFile key) (midst (fifth (numbers 2 2 2 1 5 5)) (S.V 7 0) (numbers 2 2 2 1 5 5) D.RecoverEmpty oneReading) (λ f e. third-out) refl refl
+      then recovers 1 (thirdFile key) wholeWorld (λ f e. third-out) refl refl
+
+  go-pointing : length key ≡ 16 → Goes newWorld (pointing key) (replicate 20 0) pointSet
+  go-pointing long = go-visible long then go-point
+
+  go-whole : length key ≡ 16 → Goes newWorld (wholeLife key) wholeShown wholeWorld
+  unfolding wholeLife afterCut
+  go-whole long =
+      let load = loads cutVault (third cutVault [] [] []) refl cut-good long in
+      go-pointing long then (go-refused then go-checkpoint then go-truncate) then go-cutting then (load then go-accepting then go-broken) then load then go-accepting then go-completing
 
   -- it keeps to the premises
-  pub eight-listed : length key ≡ 16 → Premises key newWorld (allEight key)
-  eight-listed long = go-eight long .keeps
+  pub whole-listed : length key ≡ 16 → Premises key newWorld (wholeLife key)
+  whole-listed long = go-whole long .keeps
 
-  -- and each of its calls is taken: the record is in the third checkpoint, R of lane 0 is 1, and the log is empty
-  pub eight-vault : length key ≡ 16 → settled (run key newWorld (allEight key)) .vault ≡ tidyVault
-  unfolding gone dropping tidied counted tidyVault done vaultAfter
-  eight-vault long = ap (λ (w : World). settled w .vault) (go-eight long .ends)
+  -- each of its calls is taken, but for the second Point at 20
+  pub whole-shown : length key ≡ 16 → shownBy key newWorld (wholeLife key) ≡ wholeShown
+  whole-shown long = go-whole long .shows
 
-  pub eight-log : length key ≡ 16 → faithfulLog (settled (run key newWorld (allEight key)) .card) ≡ []
-  unfolding gone dropping tidied done cardAfter placedFrom faithfulLog inOrder endToEnd
-  eight-log long = ap (λ (w : World). faithfulLog (settled w .card)) (go-eight long .ends)
+  -- which is refused with 6 by the state that the first one left
+  pub point-refused : length key ≡ 16 → (c : State) × (run key newWorld (pointing key) .state ≡ some c) × (point c 20 ≡ refusing c 6 [])
+  unfolding pointSet onePoint point ready valid vaultOk laneOk allBelow journalOf refuse
+  point-refused long = (_, ap (λ (w : World). w .state) (go-pointing long .ends), refl)
 
-  -- ---- the list
+  -- in the end the collector is in service, with nothing due and the one reading in its table
+  pub whole-state : length key ≡ 16 → run key newWorld (wholeLife key) .state ≡ some (wholeState key)
+  unfolding wholeWorld
+  whole-state long = ap (λ (w : World). w .state) (go-whole long .ends)
+
+  -- these numbers are in the vault: the epoch has risen, and W, V and R of lane 0 are 2
+  pub whole-vault : length key ≡ 16 → settled (run key newWorld (wholeLife key)) .vault ≡ wholeVault
+  unfolding wholeWorld done vaultAfter
+  whole-vault long = ap (λ (w : World). settled w .vault) (go-whole long .ends)
+
+  -- the book has the one record: the second transaction was never visible
+  pub whole-book : length key ≡ 16 → settled (run key newWorld (wholeLife key)) .book ≡ onlyRecord ∷ []
+  unfolding wholeWorld done bookAfter
+  whole-book long = ap (λ (w : World). settled w .book) (go-whole long .ends)
+
+  -- and the card's log is empty
+  pub whole-log : length key ≡ 16 → faithfulLog (settled (run key newWorld (wholeLife key)) .card) ≡ []
+  unfolding wholeWorld done cardAfter faithfulLog inOrder endToEnd
+  whole-log long = ap (λ (w : World). faithfulLog (settled w .card)) (go-whole long .ends)
+
+  -- ---- the list that leaves a cold collector
 
   -- it keeps to the premises
   pub example-listed : length key ≡ 16 → Premises key newWorld (events key)
   example-listed long = go-all long .keeps
+
+  -- each of its calls is taken
+  pub example-shown : length key ≡ 16 → shownBy key newWorld (events key) ≡ replicate 20 0
+  example-shown long = go-all long .shows
 
   -- and leaves this collector
   pub example-cold : length key ≡ 16 → run key newWorld (events key) .state ≡ some (cold key)
@@ -357,11 +468,11 @@ module _ (key : List ℕ) where
 
   -- the honest card is the one that kept faith: it has the record, and a file of version S
   pub honest-log : length key ≡ 16 → faithfulLog (settled (run key newWorld (events key)) .card) ≡ recordOf key
-  unfolding final lasts done cardAfter faithfulLog inOrder insertPlaced endToEnd
+  unfolding final done cardAfter faithfulLog inOrder insertPlaced endToEnd
   honest-log long = ap (λ (w : World). faithfulLog (settled w .card)) (go-all long .ends) ∙ append-nil (recordOf key)
 
   pub honest-file : length key ≡ 16 → FaithfulFile (settled (run key newWorld (events key)) .vault .s) (settled (run key newWorld (events key)) .card) (newerFile key)
-  unfolding final lasts lastVault done cardAfter vaultAfter FaithfulFile
+  unfolding final lastVault done cardAfter vaultAfter FaithfulFile
   honest-file long =
       subst (λ (w : World). FaithfulFile (settled w .vault .s) (settled w .card) (newerFile key)) (sym (go-all long .ends))
       (List·Memᴰ·tail (List·Memᴰ·head refl), version-is (aesGcm key) 2 2 emptyTable (omega arith))
@@ -402,7 +513,7 @@ module _ (key : List ℕ) where
 
   -- and that was put out
   put-only : (c : Option State) (b : List ℕ) → b ≡ recordOf key → PutOut (final c) b
-  unfolding final lasts only
+  unfolding final
   put-only c b e = rw e (List·Memᴰ·head refl)
 
   record-parts : (c : Option State) (b : List ℕ) (r : Opened) → List·Memᴰ b (recordsIn (recordOf key)) → openRecord (aesGcm key) b ≡ some r → PutOut (final c) b
@@ -412,20 +523,20 @@ module _ (key : List ℕ) where
   fits long e h = subst (λ (w : World). Honest key w e) (sym (go-all long .ends)) h
 
   pub honest-fits : length key ≡ 16 → (room : ℕ) → Honest key (run key newWorld (events key)) (call (callRecover (newerFile key) (recordOf key) room))
-  unfolding Honest final lasts newer
+  unfolding Honest final
   honest-fits long room = fits long (call (callRecover (newerFile key) (recordOf key) room)) (record-parts (some (cold key)), λ f e. List·Memᴰ·tail (List·Memᴰ·head refl))
 
   pub empty-fits : length key ≡ 16 → (room : ℕ) → Honest key (run key newWorld (events key)) (call (callRecover (newerFile key) [] room))
-  unfolding Honest final lasts newer
+  unfolding Honest final
   empty-fits long room = fits long (call (callRecover (newerFile key) [] room)) (empty-log (final (some (cold key))), λ f e. List·Memᴰ·tail (List·Memᴰ·head refl))
 
   pub old-fits : length key ≡ 16 → (room : ℕ) → Honest key (run key newWorld (events key)) (call (callRecover (olderFile key) (recordOf key) room))
-  unfolding Honest final lasts older
+  unfolding Honest final
   old-fits long room =
       fits long (call (callRecover (olderFile key) (recordOf key) room)) (record-parts (some (cold key)), λ f e. List·Memᴰ·tail (List·Memᴰ·tail (List·Memᴰ·head refl)))
 
   pub doubled-fits : length key ≡ 16 → (room : ℕ) → Honest key (run key newWorld (events key)) (call (callRecover (newerFile key) (doubledLog key) room))
-  unfolding Honest final lasts newer
+  unfolding Honest final
   doubled-fits long room =
       fits long (call (callRecover (newerFile key) (doubledLog key) room))
       (λ b r m e. put-only (some (cold key)) b (all-only (onlyRecord ∷ onlyRecord ∷ []) only-two (doubledLog key) two-laid b m), λ f e. List·Memᴰ·tail (List·Memᴰ·head refl))
@@ -493,3 +604,8 @@ module _ (key : List ℕ) where
 pub reading-shown : getD (entered emptyTable text 0 1 .entries) 1 noEntry ≡ shownEntry
 unfolding text entered putTo put emptyTable writeCount writeAt writeIn entryAt entryOf stampOf latest little padded signedOf
 reading-shown = refl
+
+-- and it does at the end of the list with every call
+pub whole-shows : (key : List ℕ) → getD (wholeState key .table .entries) 1 noEntry ≡ shownEntry
+unfolding wholeState
+whole-shows key = reading-shown

@@ -2,7 +2,8 @@
 -- Vaults: the 27 numbers. States: the state, and the rule for a handed one. Said: what a call answers, in 01's numbers.
 -- Load, Accept (with Seal), Commit, Point, Checkpoint, Truncate, Replay (the log rules), Recover: the operations.
 -- Tally: the stores of the longer operations, in order. LatestOf: the latest of a book's writes. History: the list, the card and the premises.
--- Since: what a list has used and set since service began. Claim: demand 3. Beside: what is said beside it. Worked: a list with an honest card and hostile ones. Sheet: the bench sheet.
+-- Since: what a list has used and set since service began. Claim: demand 3. Beside: what is said beside it.
+-- Worked: a list with an honest card and hostile ones, and one with every call. Sheet: the bench sheet.
 pub mod Vaults
 pub mod States
 pub mod Said
