@@ -62,7 +62,7 @@ newerFile key = fileBytes (aesGcm key) 2 2 emptyTable
 abbrev pub doubledLog : List ℕ → List ℕ
 doubledLog key = recordOf key ++ recordOf key
 
--- ---- the list
+-- ---- the list that the cards are handed after
 
 -- the vault at the end
 unfoldable pub lastVault : Vault
