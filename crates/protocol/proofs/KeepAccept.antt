@@ -10,7 +10,7 @@ use native.Mathlib.Omega.{arith}
 use lib.Dec.{leb, ltb, eqb}
 use lib.ListN.{set, length, length-set, length-append}
 use lib.Seq.{getD-set-same, take-append-seam}
-use borrow.Author.Tests.{eqb-true, ltb-false, leb-false}
+use borrow.Author.Tests.{eqb-true, ltb-false, leb-false, not-false}
 use Rattle.octets.specs.Lists.{at}
 use Rattle.octets.proofs.BoolLaws.{and-left, and-right, or-left, or-right}
 use Rattle.reading.specs.Transaction.{maxText, legal}
@@ -36,7 +36,8 @@ use Rattle.protocol.proofs.Listed.{upto-length, upto-set, flag-false, m
 use Rattle.protocol.proofs.Invariant.{Durable, quiet, outRecord, Durably, Crowd, Serving, heldSpot, Service, LinkedAt, Good, GoodAnswer, Known, At, markOf, floorOf, nextOf}
 use Rattle.protocol.proofs.StoreLaws.{Up, up-set, lanes-w, lanes-v, sealed-w, sealed-add, book-sealed, book-add, files-book, card-sealed}
 use Rattle.protocol.proofs.KeepRecover.{good-refuse}
-use Rattle.protocol.proofs.KeepCold.{not-false, unseal}
+use Rattle.protocol.proofs.Walks.{walk-accept}
+use Rattle.protocol.proofs.KeepCold.{unseal}
 use Rattle.protocol.proofs.Phases.{is-record, is-serving, card-of, link-serving, link-quiet, when-ready}
 
 -- one more number of a lane, and one more record of it
@@ -124,20 +125,14 @@ module _ (key : List ℕ) where
       below y (inr m) = let z = ap (λ (p : Spot). p .position) (List·Memᴰ·eq-of-singleton m) in omega arith
 
   pub keep-accept : (c : State) (d : Durable) (text : List ℕ) (lane pos : ℕ) → Durably (At c d) → LinkedAt key c (At c d) (c .phase) (c .due) → ((i : ℕ) → at text i < 256) → GoodAnswer key (At c d) none (accept c text lane pos)
-  unfolding accept tooLow
-  keep-accept c d text lane pos i k bytes =
-      good-refuse key _ none _ c 1 [] _ (λ r. let s = when-ready key c (At c d) k r in
-      good-refuse key _ none (not (legal text)) c 4 [] _ (λ t.
-      good-refuse key _ none (leb lanes lane) c 5 [] _ (λ l.
-      good-refuse key _ none ((c .points .any && leb pos (c .points .newest)) || (c .journal .used && leb pos (c .journal .last))) c 6 [] _ (λ p.
-      good-refuse key _ none (leb listed (c .journal .count)) c 7 [] _ (λ m.
-      good-refuse key _ none (leb counterMax (at (c .vault .w) lane)) c 8 [] _ (λ w. (
+  unfolding tooLow
+  keep-accept c d text lane pos i k bytes = walk-accept (GoodAnswer key (At c d) none) c (λ n vs. tt) text lane pos (λ r t l p m w.
+      let s = when-ready key c (At c d) k r in (
         quiet,
-        accept-good c d text lane pos i (s .0) (s .2) (not-false (legal text) t) bytes (leb-false lanes lane l)
+        accept-good c d text lane pos i (s .0) (s .2) t bytes l
             (flag-false (c .points .any) pos (c .points .newest) (or-left (c .points .any && leb pos (c .points .newest)) (c .journal .used && leb pos (c .journal .last)) p))
-            (flag-false (c .journal .used) pos (c .journal .last) (or-right (c .points .any && leb pos (c .points .newest)) (c .journal .used && leb pos (c .journal .last)) p))
-            (leb-false listed (c .journal .count) m) (leb-false counterMax (at (c .vault .w) lane) w),
-      )))))))
+            (flag-false (c .journal .used) pos (c .journal .last) (or-right (c .points .any && leb pos (c .points .newest)) (c .journal .used && leb pos (c .journal .last)) p)) m w,
+      ))
 
   -- the record that is held, and the bytes that are put out
   abbrev heldOpened : State → Opened
@@ -237,8 +232,8 @@ module _ (key : List ℕ) where
   unfolding outOfTurn
   in-turn c r q =
       let u = not (eqb (r .number) (suc (at (c .vault .v) (r .lane)))) in
-      let x = ltb (at (c .vault .w) (r .lane)) (r .number) in
-      (eqb-true _ _ (not-false _ (or-left u x q)), ltb-false _ _ (or-right u x q))
+      let most = ltb-false (at (c .vault .w) (r .lane)) _ (or-right u _ q) in
+      (eqb-true _ _ (not-false _ (or-left u _ q)), omega arith)
 
   keep-opened : (c : State) (d : Durable) (o : Option Opened) → Durably (At c d) → c .phase ≡ F.Serving → c .due ≡ D.Nothing → Service key c (At c d) D.Nothing
       → ((y : Opened) → o ≡ some y → In (d .sealed) y) → GoodAnswer key (At c d) o (commitOpened c o)

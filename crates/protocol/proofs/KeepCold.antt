@@ -2,14 +2,13 @@
 -- Assumes nothing.
 use Prim.Native.Nat.{ℕ, _+_, _≤_}
 use mathlib.Core.Path.{_≡_, refl, subst}
-use mathlib.Core.Bool.{Bool, true, false, cond, not, _||_}
+use mathlib.Core.Bool.{Bool, true, false, cond, not}
 use mathlib.Core.Option.{Option, none, some}
 use mathlib.Core.List.{List, [], _∷_, List·Memᴰ}
 use native.Mathlib.Omega.{arith}
-use lib.Dec.{leb, ltb, eqb}
+use lib.Dec.{eqb}
 use lib.ListN.{length}
-use borrow.Author.Tests.{ltb-false, leb-false, eqb-true}
-use Rattle.octets.proofs.BoolLaws.{or-left, or-right}
+use borrow.Author.Tests.{eqb-true, not-false}
 use Rattle.table.specs.Table.{emptyTable}
 use Rattle.table.specs.declared.Table.{Table}
 use Rattle.sealed.specs.Aead.{aesGcm}
@@ -27,16 +26,12 @@ use Rattle.protocol.specs.declared.Vault.{Vault}
 use Rattle.protocol.specs.declared.State.{State}
 use Rattle.protocol.specs.declared.Phase.the-variants as F
 use Rattle.protocol.specs.declared.Store.the-variants as S
+use Rattle.protocol.proofs.SpentLaws.{passes-unspent}
 use Rattle.protocol.proofs.Basis.{opens, file-opens}
 use Rattle.protocol.proofs.Latest.{In, Upto}
 use Rattle.protocol.proofs.Hostile.{replay-full}
 use Rattle.protocol.proofs.Invariant.{Durable, quiet, FileIn, SealedOnce, Filed, Durably, Known, as-record, as-file, GoodAnswer, At}
 use Rattle.protocol.proofs.KeepRecover.{good-refuse}
-
--- a test that is turned round
-pub not-false : (b : Bool) → not b ≡ false → b ≡ true
-not-false true e = refl
-not-false false e = let z : _≡_ {A = ℕ} 0 1 = cc in absurd (omega arith)
 
 -- a checkpoint that is not turned down is of version S
 pub asked : (c : State) (f : OpenedFile) → otherVersion c f ≡ false → f .version ≡ c .vault .s
@@ -82,13 +77,13 @@ module _ (key : List ℕ) where
 
   keep-read : (c : State) (d : Durable) (log : List ℕ) (t : Table) → c .key ≡ key → Durably (At c d) → TrustedLog d log → Upto (d .book) (c .vault .r) t → spent (c .vault) ≡ false
       → (rd : Read) → replay (aesGcm (c .key)) (c .vault) t log ≡ rd → GoodAnswer key (At c d) none (recoverRead c rd)
-  unfolding recoverRead recovered spent
+  unfolding recoverRead recovered
   keep-read c d log t kk i h u sp (stopped n vs) e = tt
   keep-read c d log t kk i h u sp (reading g) e =
-      let a = or-left (ltb counterMax (c .vault .s + 2) || ltb counterMax (c .vault .n + 2)) (leb counterMax (c .vault .e)) sp in
-      let s2 = ltb-false counterMax (c .vault .s + 2) (or-left (ltb counterMax (c .vault .s + 2)) (ltb counterMax (c .vault .n + 2)) a) in
-      let n2 = ltb-false counterMax (c .vault .n + 2) (or-right (ltb counterMax (c .vault .s + 2)) (ltb counterMax (c .vault .n + 2)) a) in
-      let e1 = leb-false counterMax (c .vault .e) (or-right (ltb counterMax (c .vault .s + 2) || ltb counterMax (c .vault .n + 2)) (leb counterMax (c .vault .e)) sp) in
+      let left = passes-unspent (c .vault) sp in
+      let s2 = left .s in
+      let n2 = left .n in
+      let e1 = left .e in
       let f = replay-full (c .key) (c .vault) (d .book) (In (d .sealed)) (i .book .known) (i .sealed .single) (i .sealed .fine) (i .book .whole) (i .book .seen) (i .lanes .rlen) (i .lanes .vlen) log
       (λ b y m o. let q = subst (λ (x : List ℕ). openRecord (aesGcm x) b ≡ some y) kk o in unseal b y (i .sealed) (h b y m q) q) t u g e in (
         quiet,

@@ -10,7 +10,7 @@ use native.Mathlib.Omega.{arith}
 use native.Mathlib.Decide.{decLt}
 use lib.Dec.{leb, ltb, eqb}
 use lib.ListN.{set, length, List·getD-eq-default}
-use borrow.Author.Tests.{ltb-true, eqb-true, ltb-false, leb-false}
+use borrow.Author.Tests.{ltb-true, eqb-true, ltb-false, leb-false, not-false}
 use Rattle.octets.specs.Lists.{at}
 use Rattle.table.specs.Table.{lanes}
 use Rattle.protocol.specs.Vaults.{setR}
@@ -30,7 +30,6 @@ use Rattle.protocol.proofs.Listed.{dropped-points, dropped-length}
 use Rattle.protocol.proofs.Invariant.{Durable, quiet, Durably, Arrays, Service, Serving, ServingAt, Crowd, Ascending, Cutting, LinkedAt, Good, GoodAnswer, At, markOf, floorOf, nextOf}
 use Rattle.protocol.proofs.StoreLaws.{Up, up-set, lanes-r, book-r, files-r, card-r}
 use Rattle.protocol.proofs.KeepRecover.{good-refuse}
-use Rattle.protocol.proofs.KeepCold.{not-false}
 use Rattle.protocol.proofs.Phases.{card-of, link-serving, when-serving}
 
 -- what findPoint found

@@ -5,6 +5,7 @@ use mathlib.Core.Path.{_≡_, refl, sym, subst, subst₂, _∙_}
 use mathlib.Core.Bool.{true, false, not, _&&_}
 use mathlib.Core.List.{List}
 use native.Mathlib.Omega.{arith}
+use borrow.Author.Tests.{not-false}
 use Rattle.octets.specs.Lists.{at}
 use Rattle.octets.proofs.BoolLaws.{and-left, and-right}
 use Rattle.table.proofs.OrderLaws.{clash}
@@ -22,7 +23,6 @@ use Rattle.protocol.specs.declared.Due.the-variants as D
 use Rattle.protocol.proofs.Latest.{In}
 use Rattle.protocol.proofs.Card.{Spot, cnt}
 use Rattle.protocol.proofs.Invariant.{Durable, SpotIn, Lanes, Carded, Serving, Service, LinkedAt, Linked}
-use Rattle.protocol.proofs.KeepCold.{not-false}
 
 pub is-nothing : (du : Due) → isNothing du ≡ true → du ≡ D.Nothing
 is-nothing D.Nothing e = refl

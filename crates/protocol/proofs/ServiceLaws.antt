@@ -11,7 +11,7 @@ use native.Mathlib.Omega.{arith}
 use lib.Dec.{leb, ltb, eqb}
 use lib.ListN.{length, take, set, replicate}
 use lib.Seq.{take-append-seam, take-suc-set, length-take-le, getD-set-same}
-use borrow.Author.Tests.{le-leb, le-ltb, lt-ltb, leb-false, eq-eqb}
+use borrow.Author.Tests.{le-leb, le-ltb, lt-ltb, leb-false, eq-eqb, not-false}
 use Rattle.octets.specs.Lists.{at}
 use Rattle.octets.proofs.BoolLaws.{and-false}
 use Rattle.reading.specs.Transaction.{maxText, legal}
@@ -51,7 +51,6 @@ use Rattle.protocol.proofs.Card.{Spot, spotsFrom, cnt, Consec, Rising, 
 use Rattle.protocol.proofs.Listed.{dropped-points, covered-points}
 use Rattle.protocol.proofs.Invariant.{Durable, Durably, Apart, Lanes, Ascending, Service, LinkedAt, Linked, LinkedIf, markOf, floorOf}
 use Rattle.protocol.proofs.StoreLaws.{lanes-w}
-use Rattle.protocol.proofs.KeepCold.{not-false}
 use Rattle.protocol.proofs.KeepPoint.{count-map}
 use Rattle.protocol.proofs.KeepTruncate.{found-in, above-mem, above-last}
 use Rattle.protocol.proofs.KeepCheckpoint.{cover-ascend}
@@ -249,8 +248,8 @@ module _ (key : List ℕ) where
       walk-accept (λ a. isTaken (a .said) ≡ true → (seal (a .state) room .said ≡ taken (S.Record position) (length text + frameLen))
       × (seal (a .state) room .put ≡ recordBytes (aesGcm key) lane (c .vault .e) (suc (at (c .vault .w) lane)) text)) c
       (λ n vs e. clash (sym e)) text lane position
-      (λ r t l p m w e. let ln = leb-false lanes lane l in
-      let hs = accepted-holds es c h i text lane position (not-false (legal text) t) ln (leb-false listed (c .journal .count) m) (leb-false counterMax (at (c .vault .w) lane) w) in
+      (λ r t ln p m w e.
+      let hs = accepted-holds es c h i text lane position t ln m w in
       let ht = held-text c text lane position in
       let rm : ltb room (length text + frameLen) ≡ false = le-ltb room (length text + frameLen) long in
       let is = accepted-record es c i text lane position ln in
@@ -302,7 +301,7 @@ module _ (key : List ℕ) where
       let ar = known es c h .service .arrays in
       walk-point (λ a. isTaken (a .said) ≡ true → (p : Point) × (pointsOf (a .state .points) ≡ pointsOf (c .points) ++ (p ∷ [])) × (p .position ≡ position) × (p .covered ≡ false)) c
       (λ n vs e. clash (sym e)) position
-      (λ r low few e. let lt = leb-false pointsMax (c .points .count) few in (pointAt c position, take-suc-set (c .points .items) (c .points .count) (pointAt c position) (omega (arith, ar .ilen)), refl, refl))
+      (λ r low few e. (pointAt c position, take-suc-set (c .points .items) (c .points .count) (pointAt c position) (omega (arith, ar .ilen)), refl, refl))
       yea
 
   pub counts : PointsCount key

@@ -9,7 +9,7 @@ use mathlib.Core.Option.{Option, none, some}
 use native.Mathlib.Omega.{arith}
 use lib.Dec.{leb, ltb}
 use lib.ListN.{length, set, length-set, length-map, replicate}
-use borrow.Author.Tests.{leb-true, leb-false, le-leb, lt-leb}
+use borrow.Author.Tests.{leb-true, leb-false, le-leb, lt-leb, not-false}
 use Rattle.octets.proofs.BoolLaws.{and-left, and-right, or-left, or-right}
 use Rattle.table.proofs.OrderLaws.{clash}
 use Rattle.protocol.specs.States.{listed, noJournal, noPoints, valid, serving, isNothing, ready, withVault, withPoints}
@@ -32,7 +32,6 @@ use Rattle.protocol.specs.declared.Phase.the-variants as F
 use Rattle.sealed.specs.Record.{Opened}
 use Rattle.protocol.proofs.Walks.{walk-load, walk-accept, walk-seal, walk-commit, walk-point, walk-checkpoint, walk-truncate, walk-recover}
 use Rattle.protocol.proofs.Listed.{upto-length, upto-set, marks-journal, journal-lengths, map-snoc}
-use Rattle.protocol.proofs.KeepCold.{not-false}
 use Rattle.protocol.proofs.Phases.{is-serving}
 
 -- ---- positions
@@ -151,7 +150,7 @@ length-marks p (m ∷ ms) = go (leb p (m .position)) (length-marks p ms)
     go true ih = omega arith
     go false ih = omega arith
 
-fits-accept : (c : State) (g : Since) (text : List ℕ) (lane position : ℕ) → Fits (c .journal) (c .points) g → tooLow (c .points) (c .journal) position ≡ false → leb listed (c .journal .count) ≡ false
+fits-accept : (c : State) (g : Since) (text : List ℕ) (lane position : ℕ) → Fits (c .journal) (c .points) g → tooLow (c .points) (c .journal) position ≡ false → c .journal .count < listed
     → Fits (accepted c text lane position .journal) (c .points) (sinceTaken (callAccept text lane position) g)
 unfolding accepted tooLow listedMore sinceTaken marksOf
 fits-accept c g text lane position f low few =
@@ -159,7 +158,6 @@ fits-accept c g text lane position f low few =
     let p = c .points in
     let a : Bool = p .any && leb position (p .newest) in
     let b : Bool = j .used && leb position (j .last) in
-    let lt = leb-false listed (j .count) few in
     let mk = upto-set (j .count) (j .positions) (j .lanes) position lane (omega (arith, f .plen)) (omega (arith, f .llen)) in
     record {
       used = λ q. rises (j .used) (j .last) position q (or-right a b low) ∙ ap (λ (d : Bool). d || leb q position) (f .used q) ∙ sym (any-snoc q position (g .used));
@@ -168,7 +166,7 @@ fits-accept c g text lane position f low few =
           ∙ sym (standing-snoc (g .points) position (g .used) (sym (f .newest (suc position)) ∙ above (p .any) (p .newest) (or-left a b low)));
       plen = length-set (j .positions) (j .count) position ∙ f .plen;
       llen = length-set (j .lanes) (j .count) lane ∙ f .llen;
-      fewer = lt;
+      fewer = few;
     }
   where
     above : (b : Bool) (k : ℕ) → (b && leb position k) ≡ false → (b && leb (suc position) k) ≡ false

@@ -29,6 +29,7 @@ use Rattle.protocol.specs.Recover.{spent, recovered, recoverRead, recove
 use Rattle.protocol.specs.Truncate.{pointsOf, findPoint, droppedTo, afterTruncateR, truncateLane, uncovered, truncateFirst, truncateNext, truncateDue, truncate}
 use Rattle.protocol.specs.History.{isTaken}
 use Rattle.protocol.specs.Tally.{fromLane, eachLane, storeR, storeV, lastStores, recoveryStores, truncateStores, checkpointStores, answers, lastState, named, namedBy, putBy, Names, Serves, Otherwise}
+use Rattle.protocol.specs.Claim.{Unspent}
 use Rattle.protocol.specs.declared.Vault.{Vault}
 use Rattle.protocol.specs.declared.State.{State}
 use Rattle.protocol.specs.declared.Point.{Point}
@@ -37,6 +38,7 @@ use Rattle.protocol.specs.declared.Due.{Due}
 use Rattle.protocol.specs.declared.Due.the-variants as D
 use Rattle.protocol.specs.declared.Store.{Store}
 use Rattle.protocol.specs.declared.Store.the-variants as S
+use Rattle.protocol.proofs.SpentLaws.{passes-unspent}
 use Rattle.protocol.proofs.VaultLaws.{VaultFine, StateFine, state-fine, fine-state, fine-n, fine-s, fine-e, fine-r-w, fine-r-count, fine-v-w}
 
 -- ---- one call more
@@ -101,22 +103,6 @@ first-taken : (c : State) (file log : List ℕ) → isTaken (recoverFirst c file
 unfolding recoverFirst
 first-taken c file log =
     through _ c 1 [] _ (λ v. through _ c 3 _ _ (λ l. through _ c 8 [] _ (λ s. from-taken c (and-true (valid c) (isNothing (c .due)) (not-false _ v) .0) s file log)))
-
--- the counters that recovery raises have room
-pub record Left (x : Vault) : Type 0 where
-  pub s : x .s + 2 ≤ counterMax
-  pub n : x .n + 2 ≤ counterMax
-  pub e : x .e < counterMax
-
-pub left-of : (x : Vault) → spent x ≡ false → Left x
-unfolding spent
-left-of x h =
-    let a = or-left (ltb counterMax (x .s + 2) || ltb counterMax (x .n + 2)) (leb counterMax (x .e)) h in
-    record {
-      s = ltb-false counterMax (x .s + 2) (or-left (ltb counterMax (x .s + 2)) _ a);
-      n = ltb-false counterMax (x .n + 2) (or-right (ltb counterMax (x .s + 2)) _ a);
-      e = leb-false counterMax (x .e) (or-right (ltb counterMax (x .s + 2) || ltb counterMax (x .n + 2)) _ h);
-    }
 
 module _ (b : State) (listing : b .journal .count ≤ listed) (pointing : b .points .count ≤ pointsMax) (file log : List ℕ) (room : ℕ) (long : fileLen ≤ room) where
   -- a recovering collector: the numbers, and the store that is due
@@ -228,15 +214,16 @@ module _ (b : State) (listing : b .journal .count ≤ listed) (pointing : b .poi
       (names-pair z true _ fz (omega arith)
       (names-r 7 0 (setS z (suc (suc (x .s)))) refl (fine-s z fz (omega arith)) he)))
 
-accepted-tally : (c : State) (file log : List ℕ) (room : ℕ) → fileLen ≤ room → StateFine c → Left (c .vault) → (t : Table)
+accepted-tally : (c : State) (file log : List ℕ) (room : ℕ) → fileLen ≤ room → StateFine c → Unspent (c .vault) → (t : Table)
     → recover c file log room ≡ taking (recovered c t) (S.N (suc (c .vault .n))) [] → Names (λ d. recover d file log room) c (recoveryStores (not (allVisible (c .vault))) (c .vault)) Serves
 unfolding recoveryStores recovered lastStores allVisible
 accepted-tally c file log room long f l t e =
     let x = c .vault in
     let ls = l .s in
     let ln = l .n in
+    let le = l .e in
     names-more (λ d. recover d file log room) Serves c (recovered c t) (S.N (suc (x .n))) [] _ e
-    (names-rest (recovered c t) (f .listed) (f .pointed) file log room long (setN x (suc (x .n))) (fine-n x (f .vault) (omega arith)) ls (omega arith) (l .e))
+    (names-rest (recovered c t) (f .listed) (f .pointed) file log room long (setN x (suc (x .n))) (fine-n x (f .vault) (omega arith)) (omega arith) (omega arith) (omega arith))
 
 cold-first : (c : State) (file log : List ℕ) (room : ℕ) → c .phase ≡ F.Cold → recover c file log room ≡ recoverFirst c file log
 unfolding recover recoverPhase
@@ -263,7 +250,7 @@ pub recovery-tally : (c : State) (file log : List ℕ) (room : ℕ) → c .phase
 recovery-tally c file log room cold h long =
     let k = cold-first c file log room cold in
     let a = first-taken c file log (rw k at h) in
-    let t = accepted-tally c file log room long (state-fine c (a .fine)) (left-of (c .vault) (a .left)) (a .table) (k ∙ a .is) in (
+    let t = accepted-tally c file log room long (state-fine c (a .fine)) (passes-unspent (c .vault) (a .left)) (a .table) (k ∙ a .is) in (
       λ e. subst (λ (b : Bool). Names (λ d. recover d file log room) c (recoveryStores (not b) (c .vault)) Serves) (all-same (c .vault) e) t,
       λ l lt ne. subst (λ (b : Bool). Names (λ d. recover d file log room) c (recoveryStores (not b) (c .vault)) Serves) (one-differs (c .vault) l lt ne) t,
     )

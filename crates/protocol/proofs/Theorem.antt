@@ -36,6 +36,7 @@ use Rattle.protocol.specs.declared.Phase.the-variants as F
 use Rattle.protocol.specs.declared.Due.{Due}
 use Rattle.protocol.specs.declared.Due.the-variants as D
 use Rattle.protocol.specs.declared.Store.the-variants as S
+use Rattle.protocol.proofs.SpentLaws.{unspent-passes, spent-else}
 use Rattle.protocol.proofs.Walks.{walk-recover, past-refuse, at-refuse}
 use Rattle.protocol.proofs.VaultLaws.{vault-fine, fine-vault, state-fine, fine-state}
 use Rattle.protocol.proofs.Basis.{Writable, bytesOf, fileOf, file-opens, empty-file}
@@ -45,7 +46,7 @@ use Rattle.protocol.proofs.LaidLaws.{laidOut, AllWritable, laid-length,
 use Rattle.protocol.proofs.Card.{Spot, recsOf, mem-recs}
 use Rattle.protocol.proofs.Faith.{read-faithful}
 use Rattle.protocol.proofs.Invariant.{Durable, vaultTo, Durably, Cold, Service, LinkedAt, Linked, LinkedIf, Apart, Invariant, GoodSaid, known, At}
-use Rattle.protocol.proofs.TallyLaws.{left-of, recovery-tally}
+use Rattle.protocol.proofs.TallyLaws.{recovery-tally}
 use Rattle.protocol.proofs.ServiceLaws.{vault-ok, accepts, seals, commits, points, keeps, counts, nine, three}
 use Rattle.protocol.proofs.Apart.{mem-map, map-mem, faithful-log}
 use Rattle.protocol.proofs.Runs.{trusted, GoodIf, keep-answer, next-invariant, listed-invariant}
@@ -161,21 +162,8 @@ module _ (key : List ℕ) where
       subst (λ (x : Vault). recoverPhase c file (faithfulLog (a .card)) room (c .phase) .said ≡ cond (spent x) (refused 8 []) (taken (S.N (suc (x .n))) 0)) (sym sa)
       (ap₂ (λ (ph : Phase) (log : List ℕ). recoverPhase c file log room ph .said) e lo ∙ live-cold c d a file room i′ co h (subst (λ (x : Vault). FaithfulFile (x .s) (a .card) file) sa f))
 
-  -- 01's bounds are those that Recover tests
-  unspent : (x : Vault) → Unspent x → spent x ≡ false
-  unfolding spent
-  unspent x u =
-      rw (le-ltb counterMax (x .s + 2) (let z = u .s in omega arith), le-ltb counterMax (x .n + 2) (let z = u .n in omega arith), lt-leb counterMax (x .e) (let z = u .e in omega arith))
-
-  is-spent : (x : Vault) → (Unspent x → ⊥) → spent x ≡ true
-  is-spent x h = go (spent x) refl
-    where
-      go : (b : Bool) → spent x ≡ b → spent x ≡ true
-      go true e = e
-      go false e = let l = left-of x e in absurd (h (record { s = let z = l .s in omega arith; n = let z = l .n in omega arith; e = let z = l .e in omega arith }))
-
   unless-spent : (x : Vault) (said : Said) → said ≡ cond (spent x) (refused 8 []) (taken (S.N (suc (x .n))) 0) → TakenUnlessSpent x said
-  unless-spent x said e = record { takes = λ u. e ∙ rw (unspent x u); spent = λ h. e ∙ rw (is-spent x h) }
+  unless-spent x said e = record { takes = λ u. e ∙ rw (unspent-passes x u); spent = λ h. e ∙ rw (spent-else x h) }
 
   pub live : FaithfulCardIsTaken key
   live es p c q e file room f =

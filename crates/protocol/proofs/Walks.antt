@@ -1,12 +1,14 @@
 -- The ways through an operation, once: its answer is a refusal that leaves the state, or one of its endings, each behind the tests that lead to it.
 -- So a predicate of answers that holds of the refusals and of the endings holds of the operation.
 -- Assumes nothing.
-use Prim.Native.Nat.{ℕ, suc}
+use Prim.Native.Nat.{ℕ, suc, _≤_, _<_}
 use mathlib.Core.Path.{_≡_, refl, sym}
 use mathlib.Core.Bool.{Bool, true, false, cond, not, _&&_, _||_}
 use mathlib.Core.List.{List, [], _∷_}
 use mathlib.Core.Option.{Option, some, none}
+use native.Mathlib.Omega.{arith}
 use lib.Dec.{leb, eqb}
+use borrow.Author.Tests.{leb-false, not-false}
 use lib.ListN.{length}
 use Rattle.octets.specs.Lists.{at}
 use Rattle.reading.specs.Transaction.{legal}
@@ -37,6 +39,10 @@ use Rattle.protocol.specs.declared.Due.the-variants as D
 use Rattle.protocol.specs.declared.Store.{Store}
 use Rattle.protocol.specs.declared.Store.the-variants as S
 
+-- what is not at a limit is below any that is not lower
+within : (a b k : ℕ) → leb a b ≡ false → a ≤ k → b < k
+within a b k e h = let z = leb-false a b e in omega arith
+
 module _ (P : Answered → Type 0) (c : State) (down : (n : ℕ) (vs : List ℕ) → P (refusing c n vs)) where
   -- turned down, or past the test
   past : (b : Bool) (n : ℕ) (vs : List ℕ) (a : Answered) → (b ≡ false → P a) → P (refuse b c n vs a)
@@ -49,12 +55,12 @@ module _ (P : Answered → Type 0) (c : State) (down : (n : ℕ) (vs : List ℕ)
   either false p q hp hq = hq
 
   pub walk-accept : (text : List ℕ) (lane position : ℕ)
-      → (not (ready c) ≡ false → not (legal text) ≡ false → leb lanes lane ≡ false → tooLow (c .points) (c .journal) position ≡ false → leb listed (c .journal .count) ≡ false → leb counterMax (at (c .vault .w) lane) ≡ false
+      → (not (ready c) ≡ false → legal text ≡ true → lane < lanes → tooLow (c .points) (c .journal) position ≡ false → c .journal .count < listed → at (c .vault .w) lane < counterMax
       → P (taking (accepted c text lane position) (S.W lane (suc (at (c .vault .w) lane))) []))
       → P (accept c text lane position)
   unfolding accept
   walk-accept text lane position h =
-      past _ 1 [] _ (λ r. past _ 4 [] _ (λ t. past _ 5 [] _ (λ l. past _ 6 [] _ (λ p. past _ 7 [] _ (λ m. past _ 8 [] _ (λ w. h r t l p m w))))))
+      past _ 1 [] _ (λ r. past _ 4 [] _ (λ t. past _ 5 [] _ (λ l. past _ 6 [] _ (λ p. past _ 7 [] _ (λ m. past _ 8 [] _ (λ w. h r (not-false _ t) (leb-false _ _ l) p (within _ _ _ m (omega arith)) (within _ _ _ w (omega arith))))))))
 
   pub walk-seal : (room : ℕ) → P (taking (withVault c (c .vault) D.Nothing) (S.Record (c .held .position)) (heldRecord c)) → P (seal c room)
   unfolding seal
@@ -70,10 +76,10 @@ module _ (P : Answered → Type 0) (c : State) (down : (n : ℕ) (vs : List ℕ)
   walk-commit bytes h = past _ 1 [] _ (λ r. walk-opened _ h)
 
   pub walk-point : (position : ℕ)
-      → (not (ready c) ≡ false → (c .points .any && leb position (c .points .newest)) ≡ false → leb pointsMax (c .points .count) ≡ false → P (taking (pointed c position) S.Nothing []))
+      → (not (ready c) ≡ false → (c .points .any && leb position (c .points .newest)) ≡ false → c .points .count < pointsMax → P (taking (pointed c position) S.Nothing []))
       → P (point c position)
   unfolding point
-  walk-point position h = past _ 1 [] _ (λ r. past _ 6 [] _ (λ p. past _ 7 [] _ (λ n. past _ 15 [] _ (λ u. h r p n))))
+  walk-point position h = past _ 1 [] _ (λ r. past _ 6 [] _ (λ p. past _ 7 [] _ (λ n. past _ 15 [] _ (λ u. h r p (within _ _ _ n (omega arith))))))
 
   -- the longer operations: a store that leaves all but the vault's numbers and the due store, or the last one
   module _ (stored : (x : Vault) (d : Due) (st : Store) (out : List ℕ) → P (taking (withVault c x d) st out)) where
