@@ -78,6 +78,7 @@ dropped c position d a k =
       gone = l .2;
       stays = λ p m. above-mem position ps p (rw e at m) .1;
       places = ap (λ (x : Points). x .count) (k .points) ∙ ap (λ (r : List Point). length r) (sym e);
+      vault = k .vault;
       rest = k .rest;
     }
 

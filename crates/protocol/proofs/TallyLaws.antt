@@ -28,7 +28,7 @@ use Rattle.protocol.specs.Replay.{Read, stopped, reading}
 use Rattle.protocol.specs.Recover.{spent, recovered, recoverRead, recoverLog, recoverFile, recoverFrom, recoverFirst, afterVersion, allVisible, afterR, afterV, inService, recoverDue, recoverPhase, recover}
 use Rattle.protocol.specs.Truncate.{pointsOf, findPoint, droppedTo, afterTruncateR, truncateLane, uncovered, truncateFirst, truncateNext, truncateDue, truncate}
 use Rattle.protocol.specs.History.{isTaken}
-use Rattle.protocol.specs.Tally.{fromLane, eachLane, storeR, storeV, lastStores, recoveryStores, truncateStores, checkpointStores, answers, lastState, named, namedBy, putBy, Names, Serves, Otherwise}
+use Rattle.protocol.specs.Tally.{fromLane, eachLane, storeR, storeV, lastStores, recoveryStores, truncateStores, checkpointStores, answers, lastState, named, namedBy, putBy, Names, Serves, Unchanged}
 use Rattle.protocol.specs.Claim.{Unspent}
 use Rattle.protocol.specs.declared.Vault.{Vault}
 use Rattle.protocol.specs.declared.State.{State}
@@ -265,11 +265,16 @@ recovery-24 x = refl
 
 -- ---- truncation
 
+-- numbers of which R alone may be another
+abbrev pub OnlyR : Vault → Vault → Type 0
+OnlyR x y = y ≡ record { w = x .w; v = x .v; r = y .r; e = x .e; s = x .s; n = x .n }
+
 -- behind the deletion: the points above the position are left
 pub record Cut (c : State) (position : ℕ) (d : State) : Type 0 where
   pub due : d .due ≡ D.Nothing
   pub points : d .points ≡ droppedTo (c .points) position
-  pub rest : Otherwise c d
+  pub vault : OnlyR (c .vault) (d .vault)
+  pub rest : Unchanged c d
 
 -- the point that is found is at the position
 found-at : (position : ℕ) (ps : List Point) (p : Point) → findPoint position ps ≡ some p → p .position ≡ position
@@ -304,26 +309,26 @@ module _ (c : State) (position : ℕ) (p : Point) (found : findPoint position (p
   unfolding truncateDue truncateFirst uncovered truncateLane afterTruncateR refuse
   cut-first x f h = cuts x D.Nothing f ∙ rw (found, h)
 
-  names-delete : (x : Vault) → VaultFine x → Names cut (withVault c x (D.TruncateDelete position)) (S.Delete (p .position) ∷ []) (Cut c position)
+  names-delete : (x : Vault) → OnlyR (c .vault) x → VaultFine x → Names cut (withVault c x (D.TruncateDelete position)) (S.Delete (p .position) ∷ []) (Cut c position)
   unfolding truncateDue droppedTo refuse
-  names-delete x f = rw (found-at position (pointsOf (c .points)) p found)
+  names-delete x o f = rw (found-at position (pointsOf (c .points)) p found)
       (names-more cut (Cut c position) _ (withPoints (withVault c x D.Nothing) (droppedTo (c .points) position) D.Nothing) (S.Delete position) [] [] (cuts x (D.TruncateDelete position) f ∙ rw (eq-eqb position position refl))
-      (names-none cut (Cut c position) _ (record { due = refl; points = refl; rest = record { phase = refl; table = refl; journal = refl; any = refl; newest = refl; held = refl; key = refl } })))
+      (names-none cut (Cut c position) _ (record { due = refl; points = refl; vault = o; rest = record { phase = refl; table = refl; journal = refl; any = refl; newest = refl; held = refl; key = refl } })))
 
   -- R of the lanes that are left, and the deletion
-  names-counts : (n l : ℕ) (x : Vault) → l + suc n ≡ lanes → VaultFine x → ((i : ℕ) → i < lanes → at (p .counts) i ≤ at (x .v) i)
+  names-counts : (n l : ℕ) (x : Vault) → l + suc n ≡ lanes → OnlyR (c .vault) x → VaultFine x → ((i : ℕ) → i < lanes → at (p .counts) i ≤ at (x .v) i)
       → Names cut (withVault c x (D.TruncateR l position)) (fromLane storeCount l (suc n) ++ (S.Delete (p .position) ∷ [])) (Cut c position)
   unfolding fromLane afterTruncateR
-  names-counts zero l x e f h =
+  names-counts zero l x e o f h =
       let y = setR x l (at (p .counts) l) in
       names-more cut (Cut c position) _ (withVault c y (D.TruncateDelete position)) (storeCount l) [] (S.Delete (p .position) ∷ [])
       (cut-r x l f (omega arith) ∙ rw (le-ltb (suc l) lanes (omega arith)))
-      (names-delete y (fine-r-count x f l (at (p .counts) l) (h l (omega arith))))
-  names-counts (suc n) l x e f h =
+      (names-delete y (ap (λ (z : Vault). setR z l (at (p .counts) l)) o) (fine-r-count x f l (at (p .counts) l) (h l (omega arith))))
+  names-counts (suc n) l x e o f h =
       let y = setR x l (at (p .counts) l) in
       names-more cut (Cut c position) _ (withVault c y (D.TruncateR (suc l) position)) (storeCount l) [] (fromLane storeCount (suc l) (suc n) ++ (S.Delete (p .position) ∷ []))
       (cut-r x l f (omega arith) ∙ rw (lt-ltb (suc l) lanes (omega arith)))
-      (names-counts n (suc l) y (omega arith) (fine-r-count x f l (at (p .counts) l) (h l (omega arith))) h)
+      (names-counts n (suc l) y (omega arith) (ap (λ (z : Vault). setR z l (at (p .counts) l)) o) (fine-r-count x f l (at (p .counts) l) (h l (omega arith))) h)
 
 -- "stores R of lanes 0 to 7 from the point's counts, then deletion of records below it. That point and older ones are dropped": nine calls at a
 -- covered point whose numbers are all visible
@@ -337,7 +342,7 @@ truncate-tally c position p ok serves idle found covered below =
     let x = setR (c .vault) 0 (at (p .counts) 0) in
     names-more (λ d. truncate d position) (Cut c position) c (withVault c x (D.TruncateR 1 position)) (S.R 0 (at (p .counts) 0)) [] _
     (ap (λ (d : State). truncate d position) (sym e) ∙ cut-first c position p found serves (f .listed) (f .pointed) (c .vault) (f .vault) covered)
-    (names-counts c position p found serves (f .listed) (f .pointed) 6 1 x refl (fine-r-count (c .vault) (f .vault) 0 (at (p .counts) 0) (below 0 (omega arith))) below)
+    (names-counts c position p found serves (f .listed) (f .pointed) 6 1 x refl refl (fine-r-count (c .vault) (f .vault) 0 (at (p .counts) 0) (below 0 (omega arith))) below)
 
 pub truncate-9 : (p : Point) → length (truncateStores p) ≡ 9
 unfolding truncateStores fromLane

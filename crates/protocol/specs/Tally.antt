@@ -99,7 +99,7 @@ pub record Serves (c : State) : Type 0 where
   pub points : c .points ≡ noPoints
 
 -- all but the vault's numbers, the due store and the points is as it was
-pub record Otherwise (c d : State) : Type 0 where
+pub record Unchanged (c d : State) : Type 0 where
   pub phase : d .phase ≡ c .phase
   pub table : d .table ≡ c .table
   pub journal : d .journal ≡ c .journal
@@ -109,7 +109,7 @@ pub record Otherwise (c d : State) : Type 0 where
   pub key : d .key ≡ c .key
 
 -- Truncate, c before and d after: "That point and older ones are dropped, so their places are free." The points that were kept are those up to the
--- position, and behind them those that stay.
+-- position, and behind them those that stay. Of the vault's numbers R alone is another, by the stores.
 pub record Dropped (c : State) (position : ℕ) (d : State) : Type 0 where
   pub due : d .due ≡ D.Nothing
   pub older : List Point
@@ -117,7 +117,8 @@ pub record Dropped (c : State) (position : ℕ) (d : State) : Type 0 where
   pub gone : (p : Point) → List·Memᴰ p older → p .position ≤ position
   pub stays : (p : Point) → List·Memᴰ p (pointsOf (d .points)) → position < p .position
   pub places : d .points .count ≡ length (pointsOf (d .points))
-  pub rest : Otherwise c d
+  pub vault : d .vault ≡ record { w = c .vault .w; v = c .vault .v; r = d .vault .r; e = c .vault .e; s = c .vault .s; n = c .vault .n }
+  pub rest : Unchanged c d
 
 -- Checkpoint, c before and d after: "Points set before it began are then covered." N and S have risen by 1.
 pub record Covered (c d : State) : Type 0 where
@@ -125,7 +126,7 @@ pub record Covered (c d : State) : Type 0 where
   pub vault : d .vault ≡ record { w = c .vault .w; v = c .vault .v; r = c .vault .r; e = c .vault .e; s = suc (c .vault .s); n = suc (c .vault .n) }
   pub points : pointsOf (d .points) ≡ map (λ (p : Point). record { position = p .position; counts = p .counts; covered = true }) (pointsOf (c .points))
   pub places : d .points .count ≡ c .points .count
-  pub rest : Otherwise c d
+  pub rest : Unchanged c d
 
 -- at each point that c keeps, d takes a truncation
 abbrev pub Truncates : State → State → Type 0
