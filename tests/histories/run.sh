@@ -5,7 +5,6 @@
 set -eu
 
 library=${PAVILUKO_LIB:-target/staticlib}/libpaviluko.a
-sheet=crates/bench_sheet/stdout
 rust=target-rust/release
 
 [ -f "$library" ] || { echo "$library is missing: build it first" >&2; exit 1; }
@@ -14,7 +13,8 @@ export PAVILUKO_LIB
 sh tests/cipher/packages.sh gcc libc6-dev libssl-dev
 
 log=$(mktemp)
-trap 'rm -f "$log"' EXIT
+sheet=$(mktemp)
+trap 'rm -f "$log" "$sheet"' EXIT
 
 # Runs a command, whose output is shown only where it fails.
 quietly() {
@@ -23,6 +23,8 @@ quietly() {
 
 quietly cargo build --release --offline --locked --quiet
 
+# The sheet is written by two programs, which rt proves side by side.
+cat crates/bench_sheet/stdout crates/bench_recover/stdout >"$sheet"
 "$rust/sheet" >"$log"
 if ! diff "$log" "$sheet" >&2; then
     echo "the model's answers to the bench sheet are not the library's" >&2

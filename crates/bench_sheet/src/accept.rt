@@ -1,7 +1,8 @@
 // Accept: a transaction, a lane, a position. It can return 1 and 4 to 8.
-use super::made;
-use super::made::MAX;
-use super::write;
+use bench_lines as write;
+use bench_made as made;
+use bench_made::MAX;
+use bench_made::lane0;
 use collector::Collector;
 
 // The line of an Accept of one write.
@@ -10,51 +11,71 @@ fn one(name: &[u8], c: Collector, lane: u8, position: u64) {
     write::line(name, made::said(h));
 }
 
+// On a new collector.
+fn fresh(name: &[u8], lane: u8, position: u64) {
+    one(name, made::fresh(), lane, position);
+}
+
+// On one with these numbers of lane 0.
+fn served(name: &[u8], w: u64, v: u64) {
+    one(name, made::served(lane0(w, v, 0)), 0, 10);
+}
+
+// On one that lists so many records, with this W of lane 0.
+fn listing(name: &[u8], count: usize, w: u64) {
+    let c = made::served(lane0(w, 0, 0));
+    one(name, made::listing(c, count), 0, 10);
+}
+
+// On one that keeps so many points.
+fn keeping(name: &[u8], count: usize) {
+    one(name, made::keeping(made::fresh(), count), 0, 10);
+}
+
+// On one whose newest point is at 10.
+fn pointed(name: &[u8], lane: u8, position: u64) {
+    one(name, made::pointing(made::fresh(), 10), lane, position);
+}
+
+// On one whose last record is at 10.
+fn used(name: &[u8], position: u64) {
+    let s = made::put(made::fresh(), 0, 10);
+    one(name, made::behind(s), 0, position);
+}
+
 // Of 16 writes.
-fn sixteen(name: &[u8], c: Collector, lane: u8, position: u64) {
-    let h = made::accept_16(c, lane, position);
+fn sixteen(name: &[u8]) {
+    let h = made::accept_16(made::fresh(), 0, 10);
     write::line(name, made::said(h));
 }
 
 // Of 17 writes.
-pub fn seventeen(name: &[u8], c: Collector, lane: u8, position: u64) {
-    let h = made::accept_17(c, lane, position);
+fn seventeen(name: &[u8], lane: u8) {
+    let h = made::accept_17(made::fresh(), lane, 10);
     write::line(name, made::said(h));
 }
 
 // ---- the condition, and what is due (1)
 
-// Cold, and in service.
-fn condition() {
+fn cold() {
     one(b"accept, a cold collector", made::cold(), 0, 10);
-    one(b"accept, one in service", made::fresh(), 0, 10);
 }
 
-// While a record is due.
 fn due() {
+    fresh(b"accept, one in service", 0, 10);
     let h = made::accept_one(made::fresh(), 0, 10);
     one(b"accept, a record is due", made::left(h), 0, 11);
 }
 
 // ---- a state that breaks a rule (1)
 
-// Load's rule.
+// Load's rule; 128 records, 8 points.
 fn broken() {
-    one(
-        b"accept, V above W",
-        made::served(made::lane0(4, 5, 0)),
-        0,
-        10,
-    );
-    one(b"accept, V at W", made::served(made::lane0(5, 5, 0)), 0, 10);
-}
-
-// 128 records, 8 points.
-fn overfull() {
-    let c = made::fresh();
-    one(b"accept, 129 records listed", made::listing(c, 129), 0, 10);
-    one(b"accept, 9 points kept", made::keeping(c, 9), 0, 10);
-    one(b"accept, 8 points kept", made::keeping(c, 8), 0, 10);
+    served(b"accept, V above W", 4, 5);
+    served(b"accept, V at W", 5, 5);
+    listing(b"accept, 129 records listed", 129, 0);
+    keeping(b"accept, 9 points kept", 9);
+    keeping(b"accept, 8 points kept", 8);
 }
 
 // ---- the transaction's layout (4)
@@ -77,8 +98,8 @@ fn writes() {
         b"accept, one write and a byte",
         b"\x64\0\0\0\0\0\0\0\0\0\x01\0\x07\0\0\0\0",
     );
-    seventeen(b"accept, 17 writes", made::fresh(), 0, 10);
-    sixteen(b"accept, 16 writes", made::fresh(), 0, 10);
+    seventeen(b"accept, 17 writes", 0);
+    sixteen(b"accept, 16 writes");
 }
 
 // Meter, code and zero.
@@ -116,72 +137,49 @@ fn order() {
     );
 }
 
-// ---- the lane (5)
+// ---- the lane (5), the position (6)
 
-// Lanes 0 to 7.
-fn lanes() {
-    one(b"accept, lane 8", made::fresh(), 8, 10);
-    one(b"accept, lane 7", made::fresh(), 7, 10);
+// Lanes 0 to 7; above every position used, and above the newest point.
+fn places() {
+    fresh(b"accept, lane 8", 8, 10);
+    fresh(b"accept, lane 7", 7, 10);
+    used(b"accept, at the last position", 10);
+    used(b"accept, above the last position", 11);
+    pointed(b"accept, at the newest point", 0, 10);
+    pointed(b"accept, above the newest point", 0, 11);
 }
 
-// ---- the position (6)
+// ---- the list (7), the counter (8)
 
-// Above every position used.
-fn used() {
-    let s = made::put(made::fresh(), 0, 10);
-    one(b"accept, at the last position", made::behind(s), 0, 10);
-    one(b"accept, above the last position", made::behind(s), 0, 11);
-}
-
-// Above the newest point.
-fn pointed() {
-    let c = made::pointing(made::fresh(), 10);
-    one(b"accept, at the newest point", c, 0, 10);
-    one(b"accept, above the newest point", c, 0, 11);
-}
-
-// ---- the list (7)
-
-// At most 128 records.
+// At most 128 records; W at the maximum.
 fn full() {
-    let c = made::fresh();
-    one(b"accept, 128 records listed", made::listing(c, 128), 0, 10);
-    one(b"accept, 127 records listed", made::listing(c, 127), 0, 10);
-}
-
-// ---- the counter (8)
-
-// W at the maximum.
-fn spent() {
-    let last = made::lane0(MAX, 0, 0);
-    one(b"accept, W at the maximum", made::served(last), 0, 10);
-    let next = made::lane0(MAX - 1, 0, 0);
-    one(b"accept, W below the maximum", made::served(next), 0, 10);
+    listing(b"accept, 128 records listed", 128, 0);
+    listing(b"accept, 127 records listed", 127, 0);
+    served(b"accept, W at the maximum", MAX, 0);
+    served(b"accept, W below the maximum", MAX - 1, 0);
 }
 
 // ---- the lowest number first
 
-// 1 before 4, 4 before 5, 5 before 6.
+// 1 before 4.
 fn first() {
-    seventeen(
-        b"accept, a cold collector and 17 writes",
-        made::cold(),
-        0,
-        10,
-    );
-    seventeen(b"accept, 17 writes and lane 8", made::fresh(), 8, 10);
-    let c = made::pointing(made::fresh(), 10);
-    one(b"accept, lane 8 and at the newest point", c, 8, 10);
+    let h = made::accept_17(made::cold(), 0, 10);
+    write::line(b"accept, a cold collector and 17 writes", made::said(h));
 }
 
-// 7 before 8, 6 before both.
+// 4 before 5, 5 before 6, 7 before 8.
 fn then() {
-    let c = made::listing(made::served(made::lane0(MAX, 0, 0)), 128);
-    one(b"accept, 128 records listed and W at the maximum", c, 0, 10);
-    let d = made::pointing(c, 10);
+    seventeen(b"accept, 17 writes and lane 8", 8);
+    pointed(b"accept, lane 8 and at the newest point", 8, 10);
+    listing(b"accept, 128 records listed and W at the maximum", 128, MAX);
+}
+
+// 6 before both.
+fn last() {
+    let c = made::listing(made::served(lane0(MAX, 0, 0)), 128);
     one(
         b"accept, at the newest point, 128 records listed and W at the maximum",
-        d,
+        made::pointing(c, 10),
         0,
         10,
     );
@@ -189,18 +187,15 @@ fn then() {
 
 // Accept's lines.
 pub fn cases() {
-    condition();
+    cold();
     due();
     broken();
-    overfull();
     writes();
     fields();
     order();
-    lanes();
-    used();
-    pointed();
+    places();
     full();
-    spent();
     first();
     then();
+    last();
 }

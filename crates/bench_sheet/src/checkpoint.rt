@@ -1,52 +1,55 @@
 // Checkpoint, in three calls: N, the file at the start of the lent buffer, S. It can return 1, 3 and 8.
-use super::made;
-use super::made::MAX;
-use super::write;
+use bench_lines as write;
+use bench_made as made;
+use bench_made::MAX;
 use collector::Collector;
 
-// A call with room for the file, and the collector behind it.
-pub fn call(name: &[u8], c: Collector) -> Collector {
-    let mut out = [0u8; 6184];
-    let h = c.checkpoint(&mut out);
+// A call with a lent buffer, and the collector behind it.
+fn calls(name: &[u8], c: Collector, out: &mut [u8]) -> Collector {
+    let h = c.checkpoint(out);
     write::line(name, made::said(h));
     made::left(h)
 }
 
+// With room for the file.
+pub fn call(name: &[u8], c: Collector) -> Collector {
+    let mut out = [0u8; 6184];
+    calls(name, c, &mut out)
+}
+
 fn room_6183(name: &[u8], c: Collector) {
     let mut out = [0u8; 6183];
-    let h = c.checkpoint(&mut out);
-    write::line(name, made::said(h));
+    calls(name, c, &mut out);
 }
 
 fn room_1(name: &[u8], c: Collector) {
     let mut out = [0u8; 1];
-    let h = c.checkpoint(&mut out);
-    write::line(name, made::said(h));
+    calls(name, c, &mut out);
 }
 
-// The condition, and what is due (1).
+// On one with these S and N.
+fn served(name: &[u8], version: u64, seal: u64) {
+    let x = vault::set_s(vault::new_vault(), version);
+    call(name, made::served(vault::set_n(x, seal)));
+}
+
+// The condition (1).
 fn condition() {
     call(b"checkpoint, a cold collector", made::cold());
 }
 
+// What is due (1).
 fn due() {
     let h = made::accept_one(made::fresh(), 0, 10);
     call(b"checkpoint, a record is due", made::left(h));
 }
 
 // The counters (8).
-fn version() {
-    let x = vault::set_s(vault::new_vault(), MAX);
-    call(b"checkpoint, S at the maximum", made::served(x));
-    let y = vault::set_s(vault::new_vault(), MAX - 1);
-    call(b"checkpoint, S below the maximum", made::served(y));
-}
-
-fn seal() {
-    let x = vault::set_n(vault::new_vault(), MAX);
-    call(b"checkpoint, N at the maximum", made::served(x));
-    let y = vault::set_n(vault::new_vault(), MAX - 1);
-    call(b"checkpoint, N below the maximum", made::served(y));
+fn counters() {
+    served(b"checkpoint, S at the maximum", MAX, 0);
+    served(b"checkpoint, S below the maximum", MAX - 1, 0);
+    served(b"checkpoint, N at the maximum", 0, MAX);
+    served(b"checkpoint, N below the maximum", 0, MAX - 1);
 }
 
 // The three calls, and the room (3): only the second puts bytes out.
@@ -66,7 +69,7 @@ fn last(c: Collector) -> Collector {
     call(b"checkpoint, call 3", c)
 }
 
-fn calls() {
+fn whole() {
     let c = last(file(number()));
     call(b"checkpoint, another, call 1", c);
 }
@@ -142,9 +145,8 @@ fn filled() {
 pub fn cases() {
     condition();
     due();
-    version();
-    seal();
-    calls();
+    counters();
+    whole();
     between();
     lowest();
     unfilled();

@@ -1,29 +1,12 @@
 // Commit: record bytes, from the card. It can return 1, 9, 10 and 11.
-use super::made;
-use super::write;
+use bench_lines as write;
+use bench_made as made;
+use bench_made::lane0;
 use collector::Collector;
 
-// The line of a Commit of 56 bytes.
-fn commits(name: &[u8], c: Collector, bytes: [u8; 56]) {
-    let h = made::commit_56(c, bytes);
-    write::line(name, made::said(h));
-}
-
-// Of 55.
-fn commits_55(name: &[u8], c: Collector, bytes: [u8; 55]) {
-    let h = c.commit(&bytes);
-    write::line(name, made::said(h));
-}
-
-// Of 57.
-fn commits_57(name: &[u8], c: Collector, bytes: [u8; 57]) {
-    let h = c.commit(&bytes);
-    write::line(name, made::said(h));
-}
-
-// Of none.
-fn commits_none(name: &[u8], c: Collector) {
-    let h = c.commit(b"");
+// The line of a Commit.
+fn commits(name: &[u8], c: Collector, bytes: &[u8]) {
+    let h = c.commit(bytes);
     write::line(name, made::said(h));
 }
 
@@ -54,83 +37,71 @@ fn first() -> [u8; 56] {
     made::bytes_of(s)
 }
 
-// A collector that takes it.
-fn waiting() -> Collector {
-    made::served(made::lane0(1, 0, 0))
+// On a collector in service with these numbers of lane 0 and this epoch. The first record's number is 1, its epoch 0.
+fn served(name: &[u8], w: u64, v: u64, epoch: u64, bytes: &[u8]) {
+    let c = made::served(vault::set_e(lane0(w, v, 0), epoch));
+    commits(name, c, bytes);
 }
 
 // The condition (1).
 fn condition() {
-    commits(b"commit, a cold collector", made::cold(), first());
+    let b = first();
+    commits(b"commit, a cold collector", made::cold(), &b);
 }
 
 // While a record is due (1).
 fn due() {
+    let b = first();
     let h = made::accept_one(made::fresh(), 0, 10);
-    commits(b"commit, a record is due", made::left(h), first());
+    commits(b"commit, a record is due", made::left(h), &b);
 }
 
-// V + 1.
-fn next() {
-    commits(b"commit, V + 1", waiting(), first());
-}
-
-// Bytes that do not open (9).
+// Bytes that open, and bytes that do not (9): too few, too many, a tag that is not right.
 fn closed() {
-    commits_none(b"commit, no bytes", waiting());
-    commits_55(b"commit, a byte short", waiting(), shorter(first()));
-    commits_57(b"commit, a byte long", waiting(), longer(first()));
+    let right = first();
+    served(b"commit, V + 1", 1, 0, 0, &right);
+    served(b"commit, no bytes", 1, 0, 0, b"");
+    let short = shorter(right);
+    served(b"commit, a byte short", 1, 0, 0, &short);
+    let long = longer(right);
+    served(b"commit, a byte long", 1, 0, 0, &long);
+    let other = changed(right);
+    served(b"commit, a bit changed", 1, 0, 0, &other);
 }
 
-// A tag that is not right (9).
-fn forged() {
-    let b = changed(first());
-    commits(b"commit, a bit changed", waiting(), b);
-}
-
-// The epoch (10).
-fn epoch() {
-    let x = vault::set_e(made::lane0(1, 0, 0), 1);
-    commits(b"commit, another epoch", made::served(x), first());
-}
-
-// V itself (11).
-fn again() {
-    let x = made::lane0(1, 1, 0);
-    commits(b"commit, V itself", made::served(x), first());
+// The epoch (10), and V itself (11).
+fn stale() {
+    let b = first();
+    served(b"commit, another epoch", 1, 0, 1, &b);
+    served(b"commit, V itself", 1, 1, 0, &b);
 }
 
 // V + 2 (11).
 fn skipped() {
-    let s = made::put(waiting(), 0, 10);
-    commits(b"commit, V + 2", made::behind(s), made::bytes_of(s));
+    let s = made::put(made::served(lane0(1, 0, 0)), 0, 10);
+    let b = made::bytes_of(s);
+    commits(b"commit, V + 2", made::behind(s), &b);
 }
 
 // V + 1, above W (11).
 fn unknown() {
-    commits(b"commit, above W", made::fresh(), first());
+    let b = first();
+    served(b"commit, above W", 0, 0, 0, &b);
 }
 
 // The lowest number first.
 fn lowest() {
-    commits_none(b"commit, a cold collector and no bytes", made::cold());
-    let x = vault::set_e(vault::new_vault(), 1);
-    commits(
-        b"commit, another epoch and above W",
-        made::served(x),
-        first(),
-    );
+    commits(b"commit, a cold collector and no bytes", made::cold(), b"");
+    let b = first();
+    served(b"commit, another epoch and above W", 0, 0, 1, &b);
 }
 
 // Commit's lines.
 pub fn cases() {
     condition();
     due();
-    next();
     closed();
-    forged();
-    epoch();
-    again();
+    stale();
     skipped();
     unknown();
     lowest();

@@ -1,8 +1,8 @@
 // Load: 27 numbers and a 16-byte key. It can return 2 and 3.
-use super::made;
-use super::made::MAX;
-use super::made::lane0;
-use super::write;
+use bench_lines as write;
+use bench_made as made;
+use bench_made::MAX;
+use bench_made::lane0;
 use collector::Collector;
 use protocol::Vault;
 
@@ -17,31 +17,44 @@ fn loads(name: &[u8], x: Vault) {
     keyed(name, x, b"sixteen of bytes");
 }
 
+// The same with these numbers of lane 0.
+fn lane(name: &[u8], w: u64, v: u64, r: u64) {
+    loads(name, lane0(w, v, r));
+}
+
+// With these E, S and N.
+fn counters(name: &[u8], e: u64, s: u64, n: u64) {
+    let x = vault::set_e(vault::new_vault(), e);
+    loads(name, vault::set_n(vault::set_s(x, s), n));
+}
+
 // Load's rule for a lane (2).
 fn rule() {
-    loads(b"load, a new vault", vault::new_vault());
-    loads(b"load, V above W", lane0(4, 5, 0));
-    loads(b"load, V at W", lane0(5, 5, 0));
-    loads(b"load, R above W", lane0(5, 5, 6));
-    loads(b"load, R at W", lane0(5, 5, 5));
-    loads(b"load, R above V and below W", lane0(5, 3, 4));
-    loads(b"load, R above V and at W", lane0(5, 3, 5));
-    loads(b"load, R at V and below W", lane0(5, 3, 3));
+    lane(b"load, a new vault", 0, 0, 0);
+    lane(b"load, V above W", 4, 5, 0);
+    lane(b"load, V at W", 5, 5, 0);
+    lane(b"load, R above W", 5, 5, 6);
+    lane(b"load, R at W", 5, 5, 5);
+    lane(b"load, R above V and below W", 5, 3, 4);
+    lane(b"load, R above V and at W", 5, 3, 5);
+    lane(b"load, R at V and below W", 5, 3, 3);
+}
+
+fn lane_7() {
     let new = vault::new_vault();
     loads(b"load, V above W on lane 7", vault::set_v(new, 7, 1));
 }
 
 // The maximum (2).
 fn maximum() {
-    let new = vault::new_vault();
-    loads(b"load, W above the maximum", lane0(MAX + 1, 0, 0));
-    loads(b"load, W at the maximum", lane0(MAX, 0, 0));
-    loads(b"load, E above the maximum", vault::set_e(new, MAX + 1));
-    loads(b"load, E at the maximum", vault::set_e(new, MAX));
-    loads(b"load, S above the maximum", vault::set_s(new, MAX + 1));
-    loads(b"load, S at the maximum", vault::set_s(new, MAX));
-    loads(b"load, N above the maximum", vault::set_n(new, MAX + 1));
-    loads(b"load, N at the maximum", vault::set_n(new, MAX));
+    lane(b"load, W above the maximum", MAX + 1, 0, 0);
+    lane(b"load, W at the maximum", MAX, 0, 0);
+    counters(b"load, E above the maximum", MAX + 1, 0, 0);
+    counters(b"load, E at the maximum", MAX, 0, 0);
+    counters(b"load, S above the maximum", 0, MAX + 1, 0);
+    counters(b"load, S at the maximum", 0, MAX, 0);
+    counters(b"load, N above the maximum", 0, 0, MAX + 1);
+    counters(b"load, N at the maximum", 0, 0, MAX);
 }
 
 // The key (3).
@@ -65,6 +78,7 @@ fn lowest() {
 // Load's lines.
 pub fn cases() {
     rule();
+    lane_7();
     maximum();
     keys();
     lowest();

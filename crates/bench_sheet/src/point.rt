@@ -1,6 +1,6 @@
 // Point: a position. It can return 1, 6, 7 and 15.
-use super::made;
-use super::write;
+use bench_lines as write;
+use bench_made as made;
 use collector::Collector;
 
 fn points(name: &[u8], c: Collector, position: u64) {
@@ -8,43 +8,50 @@ fn points(name: &[u8], c: Collector, position: u64) {
     write::line(name, made::said(h));
 }
 
-// The condition, and what is due (1).
-fn condition() {
-    points(b"point, a cold collector", made::cold(), 10);
-    points(b"point, one in service", made::fresh(), 10);
+// On a new collector.
+fn fresh(name: &[u8], position: u64) {
+    points(name, made::fresh(), position);
 }
 
+// On one that keeps so many points.
+fn keeping(name: &[u8], count: usize) {
+    points(name, made::keeping(made::fresh(), count), 10);
+}
+
+// On one whose newest point is at 10.
+fn pointed(name: &[u8], position: u64) {
+    points(name, made::pointing(made::fresh(), 10), position);
+}
+
+// On one with a record at 10 that is not visible.
+fn unseen(name: &[u8], position: u64) {
+    let s = made::put(made::fresh(), 0, 10);
+    points(name, made::behind(s), position);
+}
+
+// The condition (1).
+fn cold() {
+    points(b"point, a cold collector", made::cold(), 10);
+}
+
+// What is due (1).
 fn due() {
+    fresh(b"point, one in service", 10);
     let h = made::accept_one(made::fresh(), 0, 10);
     points(b"point, a record is due", made::left(h), 10);
 }
 
-fn broken() {
-    let c = made::fresh();
-    points(b"point, 9 points kept", made::keeping(c, 9), 10);
-}
-
-// The position (6).
-fn low() {
-    points(b"point, the first at position 0", made::fresh(), 0);
-    let c = made::pointing(made::fresh(), 10);
-    points(b"point, below the newest point", c, 9);
-    points(b"point, at the newest point", c, 10);
-    points(b"point, above the newest point", c, 11);
-}
-
-// The points kept (7).
-fn full() {
-    let c = made::fresh();
-    points(b"point, 8 points kept", made::keeping(c, 8), 10);
-    points(b"point, 7 points kept", made::keeping(c, 7), 10);
-}
-
-// A record below (15).
-fn unseen() {
-    let s = made::put(made::fresh(), 0, 10);
-    points(b"point, above a record not visible", made::behind(s), 11);
-    points(b"point, at a record not visible", made::behind(s), 10);
+// A state that breaks a rule (1), the position (6), the points kept (7), a record below (15).
+fn refused() {
+    keeping(b"point, 9 points kept", 9);
+    fresh(b"point, the first at position 0", 0);
+    pointed(b"point, below the newest point", 9);
+    pointed(b"point, at the newest point", 10);
+    pointed(b"point, above the newest point", 11);
+    keeping(b"point, 8 points kept", 8);
+    keeping(b"point, 7 points kept", 7);
+    unseen(b"point, above a record not visible", 11);
+    unseen(b"point, at a record not visible", 10);
 }
 
 fn seen() {
@@ -72,12 +79,9 @@ fn then() {
 }
 
 pub fn cases() {
-    condition();
+    cold();
     due();
-    broken();
-    low();
-    full();
-    unseen();
+    refused();
     seen();
     lowest();
     then();

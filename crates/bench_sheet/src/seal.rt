@@ -1,65 +1,60 @@
 // Seal: the record of the transaction held, at the start of the lent buffer. It can return 1 and 3.
-use super::made;
-use super::write;
+use bench_lines as write;
+use bench_made as made;
 use collector::Collector;
 
-// The line of a Seal with room for 55 bytes.
-fn room_55(name: &[u8], c: Collector) {
-    let mut out = [0u8; 55];
-    let h = c.seal(&mut out);
+// The line of a Seal into a lent buffer.
+fn seals(name: &[u8], c: Collector, out: &mut [u8]) {
+    let h = c.seal(out);
     write::line(name, made::said(h));
 }
 
-// For 56.
-fn room_56(name: &[u8], c: Collector) {
-    let mut out = [0u8; 56];
-    let h = c.seal(&mut out);
-    write::line(name, made::said(h));
+// Of a transaction of one write.
+fn one(name: &[u8], out: &mut [u8]) {
+    let h = made::accept_one(made::fresh(), 0, 10);
+    seals(name, made::left(h), out);
 }
 
-// For 175.
-fn room_175(name: &[u8], c: Collector) {
-    let mut out = [0u8; 175];
-    let h = c.seal(&mut out);
-    write::line(name, made::said(h));
+// Of one of 16 writes.
+fn sixteen(name: &[u8], out: &mut [u8]) {
+    let h = made::accept_16(made::fresh(), 0, 10);
+    seals(name, made::left(h), out);
 }
 
-// For 176, the longest record.
-pub fn room_176(name: &[u8], c: Collector) {
-    let mut out = [0u8; 176];
-    let h = c.seal(&mut out);
+// With room for the longest record.
+fn roomy(name: &[u8], c: Collector) {
+    let h = made::seal_176(c);
     write::line(name, made::said(h));
 }
 
 // What is due (1).
 fn due() {
-    room_176(b"seal, nothing held", made::fresh());
-    room_176(b"seal, a cold collector", made::cold());
+    roomy(b"seal, nothing held", made::fresh());
+    roomy(b"seal, a cold collector", made::cold());
 }
 
 // Behind the record nothing is due (1).
 fn twice() {
     let s = made::put(made::fresh(), 0, 10);
-    room_176(b"seal, a second time", made::behind(s));
+    roomy(b"seal, a second time", made::behind(s));
 }
 
 // The room (3).
-fn one() {
-    let h = made::accept_one(made::fresh(), 0, 10);
-    room_55(b"seal, one write, room for 55", made::left(h));
-    room_56(b"seal, one write, room for 56", made::left(h));
-}
-
-// The room for 16 writes (3).
-fn sixteen() {
-    let h = made::accept_16(made::fresh(), 0, 10);
-    room_175(b"seal, 16 writes, room for 175", made::left(h));
-    room_176(b"seal, 16 writes, room for 176", made::left(h));
+fn room() {
+    let mut a = [0u8; 55];
+    one(b"seal, one write, room for 55", &mut a);
+    let mut b = [0u8; 56];
+    one(b"seal, one write, room for 56", &mut b);
+    let mut c = [0u8; 175];
+    sixteen(b"seal, 16 writes, room for 175", &mut c);
+    let mut d = [0u8; 176];
+    sixteen(b"seal, 16 writes, room for 176", &mut d);
 }
 
 // The lowest number first.
 fn lowest() {
-    room_55(b"seal, nothing held, room for 55", made::fresh());
+    let mut out = [0u8; 55];
+    seals(b"seal, nothing held, room for 55", made::fresh(), &mut out);
 }
 
 // ---- the buffer: what stood there was 165
@@ -107,8 +102,7 @@ fn buffer() {
 pub fn cases() {
     due();
     twice();
-    one();
-    sixteen();
+    room();
     lowest();
     buffer();
 }

@@ -1,7 +1,7 @@
 // Truncate at a covered point, in nine calls: R of lanes 0 to 7, and the deletion. It can return 1 and 14.
 use super::checkpoint;
-use super::made;
-use super::write;
+use bench_lines as write;
+use bench_made as made;
 use collector::Collector;
 
 // A call, and the collector behind it.
@@ -37,32 +37,27 @@ fn pointed_again() -> Collector {
     made::left(h)
 }
 
-// The condition, and what is due (1).
+// The condition (1).
 fn condition() {
     call(b"truncate, a cold collector", made::cold(), 21);
 }
 
-fn due() {
+// What is due (1): a record, a checkpoint.
+fn due(name: &[u8], position: u64) {
     let h = made::accept_one(covered(), 0, 30);
-    call(b"truncate, a record is due", made::left(h), 21);
-    call(
-        b"truncate, a record is due and no such point",
-        made::left(h),
-        20,
-    );
+    call(name, made::left(h), position);
 }
 
 fn filing() {
+    due(b"truncate, a record is due", 21);
+    due(b"truncate, a record is due and no such point", 20);
     let c = made::filing(covered());
     call(b"truncate, a checkpoint is due", c, 21);
 }
 
 // The point (14).
-fn none() {
-    call(b"truncate, no point", made::fresh(), 21);
-}
-
 fn bare() {
+    call(b"truncate, no point", made::fresh(), 21);
     call(b"truncate, a point not covered", pointed(), 21);
 }
 
@@ -83,39 +78,37 @@ fn going() {
     checkpoint::call(b"checkpoint, R of lane 1 is due", d);
 }
 
-// The nine calls.
-fn lanes_0_3() -> Collector {
-    let c = call(b"truncate, call 1", covered(), 21);
-    let d = call(b"truncate, call 2", c, 21);
-    let e = call(b"truncate, call 3", d, 21);
-    call(b"truncate, call 4", e, 21)
+// A call of several at position 21.
+fn next(k: u64, c: Collector) -> Collector {
+    let h = c.truncate(21);
+    write::call(b"truncate", k, made::said(h));
+    made::left(h)
 }
 
-fn lanes_4_7(c: Collector) -> Collector {
-    let d = call(b"truncate, call 5", c, 21);
-    let e = call(b"truncate, call 6", d, 21);
-    let f = call(b"truncate, call 7", e, 21);
-    call(b"truncate, call 8", f, 21)
+// The calls from one to below another.
+fn calls(c: Collector, from: u64, to: u64) -> Collector {
+    let mut d = c;
+    for k in from..to {
+        let e = next(k, d);
+        d = e;
+    }
+    d
 }
 
-fn deletion(c: Collector) {
+// The nine calls: R of the eight lanes, and the deletion.
+fn whole() {
+    let c = calls(covered(), 1, 9);
     call(b"truncate, call 9 at another position", c, 22);
-    let d = call(b"truncate, call 9", c, 21);
+    let d = calls(c, 9, 10);
     call(b"truncate, the point dropped", d, 21);
-}
-
-fn calls() {
-    deletion(lanes_4_7(lanes_0_3()));
 }
 
 pub fn cases() {
     condition();
-    due();
     filing();
-    none();
     bare();
     other();
     later();
     going();
-    calls();
+    whole();
 }

@@ -1,4 +1,5 @@
-//! The bench sheet's cases, answered by the model: a line a case, as the library's program `bench_sheet` writes them.
+//! The bench sheet's cases, answered by the model: a line a case, as the library's programs write them, `bench_sheet` and
+//! then `bench_recover`.
 
 use std::rc::Rc;
 

@@ -1,11 +1,9 @@
 // The marked cases of the bench sheet: M1 to M12.
-use super::accept;
-use super::made;
-use super::made::MAX;
-use super::made::lane0;
 use super::recover;
-use super::seal;
-use super::write;
+use bench_lines as write;
+use bench_made as made;
+use bench_made::MAX;
+use bench_made::lane0;
 use collector::Collector;
 use sealed::record;
 
@@ -13,18 +11,23 @@ use sealed::record;
 fn shows(first: u8, second: u8) -> u64 {
     let x = vault::set_w(vault::new_vault(), 2, 6);
     let c = made::served(vault::set_v(x, 2, 6));
-    let d = made::seen(made::seen(c, first, 10), second, 20);
-    let e = d.reading(0);
-    e.lane as u64
+    made::shown_lane(made::seen(made::seen(c, first, 10), second, 20))
+}
+
+// The line of a Seal with room for the longest record.
+fn seals(name: &[u8], c: Collector) {
+    let h = made::seal_176(c);
+    write::line(name, made::said(h));
 }
 
 // M1: 56 bytes, 176 bytes, 4.
 fn m1() {
     let one = made::accept_one(made::fresh(), 0, 10);
-    seal::room_176(b"M1 one write", made::left(one));
+    seals(b"M1 one write", made::left(one));
     let all = made::accept_16(made::fresh(), 0, 10);
-    seal::room_176(b"M1 16 writes", made::left(all));
-    accept::seventeen(b"M1 17 writes", made::fresh(), 0, 10);
+    seals(b"M1 16 writes", made::left(all));
+    let more = made::accept_17(made::fresh(), 0, 10);
+    write::line(b"M1 17 writes", made::said(more));
 }
 
 // M2: 00 gives 63, 53 gives ed.
@@ -57,29 +60,27 @@ fn behind(w: u64) -> [u8; 56] {
     made::next(lane0(w, 0, 0), 0)
 }
 
-// Records 4 and 5.
-fn log_4_5() -> [u8; 112] {
-    made::joined(behind(3), behind(4))
-}
-
 fn m4() {
-    recover::log_112(b"M4 R 3, V 5, log 4 5", lane0(5, 5, 3), log_4_5());
+    let log = made::joined(behind(3), behind(4));
+    recover::logged(b"M4 R 3, V 5, log 4 5", lane0(5, 5, 3), &log);
 }
 
 fn m5() {
     let log = made::joined(behind(4), behind(3));
-    recover::log_112(b"M5 R 3, V 5, log 5 4", lane0(5, 5, 3), log);
+    recover::logged(b"M5 R 3, V 5, log 5 4", lane0(5, 5, 3), &log);
 }
 
 fn m6() {
-    recover::log_56(b"M6 R 3, V 5, log 4", lane0(5, 5, 3), behind(3));
+    let log = behind(3);
+    recover::logged(b"M6 R 3, V 5, log 4", lane0(5, 5, 3), &log);
 }
 
 fn m7() {
     let log = made::joined_3(made::joined(behind(3), behind(3)), behind(4));
-    recover::log_168(b"M7 R 3, V 5, log 4 4 5", lane0(5, 5, 3), log);
+    recover::logged(b"M7 R 3, V 5, log 4 4 5", lane0(5, 5, 3), &log);
 }
 
+// Records 3 to 6.
 fn log_3_6() -> [u8; 224] {
     let first = made::joined(behind(2), behind(3));
     let second = made::joined(behind(4), behind(5));
@@ -87,11 +88,13 @@ fn log_3_6() -> [u8; 224] {
 }
 
 fn m8() {
-    let h = recover::first_224(lane0(6, 5, 3), log_3_6());
+    let log = log_3_6();
+    let h = recover::first(lane0(6, 5, 3), b"", &log);
     write::line(b"M8 R 3, V 5, log 3 4 5 6", made::said(h));
-    let c = made::left(h);
-    let e = c.reading(0);
-    write::counted(b"M8 meter 0 shows number", e.number);
+    write::counted(
+        b"M8 meter 0 shows number",
+        made::shown_number(made::left(h)),
+    );
 }
 
 fn m9() {

@@ -1,4 +1,6 @@
-// What the cases are about: vault numbers, transactions, collectors, records.
+// What the cases of the bench sheet are about: vault numbers, transactions, collectors, records. The programs `bench_sheet`
+// and `bench_recover` make them here; the functions have no promise beyond being safe and ending, and nothing else
+// stands on them.
 //
 // A collector in service is made from a loaded one: the phase is set, and everything else is as Load left it.
 use collector::Collector;
@@ -159,9 +161,24 @@ pub fn accept_17(c: Collector, lane: u8, position: u64) -> Handed {
     )
 }
 
-// Commit of a record of one write.
-pub fn commit_56(c: Collector, bytes: [u8; 56]) -> Handed {
-    c.commit(&bytes)
+// Seal with room for the longest record.
+pub fn seal_176(c: Collector) -> Handed {
+    let mut out = [0u8; 176];
+    c.seal(&mut out)
+}
+
+// ---- readings
+
+// The number of the transaction whose reading meter 0 shows.
+pub fn shown_number(c: Collector) -> u64 {
+    let e = c.reading(0);
+    e.number
+}
+
+// Its lane.
+pub fn shown_lane(c: Collector) -> u64 {
+    let e = c.reading(0);
+    e.lane as u64
 }
 
 // ---- records
@@ -201,7 +218,9 @@ pub fn bytes_of(s: Stored) -> [u8; 56] {
 // A transaction of one write, accepted, sealed and committed.
 pub fn seen(c: Collector, lane: u8, position: u64) -> Collector {
     let s = put(c, lane, position);
-    let h = commit_56(behind(s), bytes_of(s));
+    let bytes = bytes_of(s);
+    let d = behind(s);
+    let h = d.commit(&bytes);
     left(h)
 }
 
