@@ -145,8 +145,17 @@ fn m11_21() -> Collector {
     c
 }
 
+// The line of an Accept on lane 0.
+fn accepts(name: &[u8], c: Collector, position: u64) {
+    let h = made::accept_one(c, 0, position);
+    write::line(name, made::said(h));
+}
+
+// Behind point 21 position 21 is refused with 6 and 22 is taken, by Accept and by Point.
 fn m11() {
     let c = m11_21();
+    accepts(b"M11 accept at 21", c, 21);
+    accepts(b"M11 accept at 22", c, 22);
     points(b"M11 point 21 again", c, 21);
     points(b"M11 point 22", c, 22);
 }

@@ -579,6 +579,8 @@ fn m11() {
     counted("M11 point 20 counts", counts(&c, 20));
     let c = point("M11 point 21", c, 21);
     counted("M11 point 21 counts", counts(&c, 21));
+    line("M11 accept at 21", accept(&mut c.clone(), 1, 0, 21));
+    line("M11 accept at 22", accept(&mut c.clone(), 1, 0, 22));
     point("M11 point 21 again", c.clone(), 21);
     point("M11 point 22", c, 22);
 }
