@@ -4,29 +4,65 @@
 set -euo pipefail
 cd "$(dirname "$0")/.."
 
+work=$(mktemp -d)
+trap 'wait; rm -rf "$work"' EXIT
+declare -A started
+
+# Starts a test beside what follows.
+beside() { # NAME
+    sh "tests/$1/run.sh" >"$work/$1" 2>&1 &
+    started[$1]=$!
+}
+
+# Waits for a test, and shows what it printed.
+shown() { # NAME
+    local status=0
+    wait "${started[$1]}" || status=$?
+    cat "$work/$1"
+    [ "$status" -eq 0 ] || echo "tests/$1/run.sh ended with status $status" >&2
+    return "$status"
+}
+
+# All packages at once: two tests cannot install theirs at the same time.
+sh tests/cipher/packages.sh gcc libc6-dev libssl-dev python3 python3-cryptography valgrind
+
 rt fmt --check
 
-log=$(mktemp)
-trap 'rm -f "$log"' EXIT
-rt ci 2>&1 | tee "$log" | sed '$d'
-verdict=$(tail -n 1 "$log")
-case $verdict in
-*' passed, 0 failed') ;;
+# rt ci starts so many checks and waits for the last of them before it starts more. With three to a processor less time is
+# lost behind the slowest; a check takes 1 to 2.5 GB.
+jobs=$((3 * $(nproc)))
+room=$(awk '/^MemAvailable:/ { print int($2 / 2000000) }' /proc/meminfo)
+[ "$jobs" -le "$room" ] || jobs=$room
+[ "$jobs" -ge 1 ] || jobs=1
+status=0
+RT_JOBS=${RT_JOBS:-$jobs} rt ci 2>&1 | tee "$work/ci" | sed '$d' || status=$?
+verdict=$(tail -n 1 "$work/ci")
+case "$status $verdict" in
+'0 '*' passed, 0 failed') ;;
 *)
-    echo "rt ci ended with: $verdict" >&2
+    echo "rt ci ended with: $verdict (status $status)" >&2
     exit 1
     ;;
 esac
 
-rt staticlib cipher_c | tail -n 1
-sh tests/cipher/run.sh
-
-rt staticlib sealed_c | tail -n 1
-sh tests/sealed/run.sh
-
+# The archives are made one after the other, since rt keeps its notes in target/, the one with the longest tests first.
+# What tests an archive runs beside the making of the next.
 rt staticlib paviluko | tail -n 1
-sh tests/boundary/run.sh
-sh tests/histories/run.sh
-sh tests/program/run.sh
+beside histories
+beside program
+beside boundary
+rt staticlib sealed_c | tail -n 1
+beside sealed
+rt staticlib cipher_c | tail -n 1
+beside cipher
+
+failed=
+for test in cipher sealed boundary histories program; do
+    shown "$test" || failed="$failed $test"
+done
+if [ -n "$failed" ]; then
+    echo "failed:$failed" >&2
+    exit 1
+fi
 
 echo "$verdict"
