@@ -62,28 +62,6 @@ pub fn fresh() -> Collector {
     served(vault::new_vault())
 }
 
-// The same that lists so many records.
-pub fn listing(c: Collector, count: usize) -> Collector {
-    let mut state = c.state;
-    state.journal.count = count;
-    Collector { state }
-}
-
-// The same that keeps so many points.
-pub fn keeping(c: Collector, count: usize) -> Collector {
-    let mut state = c.state;
-    state.points.count = count;
-    Collector { state }
-}
-
-// The same with its newest point at a position.
-pub fn pointing(c: Collector, newest: u64) -> Collector {
-    let mut state = c.state;
-    state.points.any = true;
-    state.points.newest = newest;
-    Collector { state }
-}
-
 // ---- calls
 
 // The collector that a call hands back.
@@ -161,26 +139,6 @@ pub fn accept_17(c: Collector, lane: u8, position: u64) -> Handed {
     )
 }
 
-// Seal with room for the longest record.
-pub fn seal_176(c: Collector) -> Handed {
-    let mut out = [0u8; 176];
-    c.seal(&mut out)
-}
-
-// ---- readings
-
-// The number of the transaction whose reading meter 0 shows.
-pub fn shown_number(c: Collector) -> u64 {
-    let e = c.reading(0);
-    e.number
-}
-
-// Its lane.
-pub fn shown_lane(c: Collector) -> u64 {
-    let e = c.reading(0);
-    e.lane as u64
-}
-
 // ---- records
 
 // A record of one write: the collector behind Seal, and the bytes.
@@ -224,36 +182,6 @@ pub fn seen(c: Collector, lane: u8, position: u64) -> Collector {
     left(h)
 }
 
-// The next record of a lane of a collector in service with these vault numbers.
-pub fn next(x: Vault, lane: u8) -> [u8; 56] {
-    let s = put(served(x), lane, 10);
-    bytes_of(s)
-}
-
-// Two records end to end.
-pub fn joined(a: [u8; 56], b: [u8; 56]) -> [u8; 112] {
-    let mut log = [0u8; 112];
-    octets::copy(&a, &mut log);
-    octets::copy(&b, &mut log[56..]);
-    log
-}
-
-// Three records end to end.
-pub fn joined_3(a: [u8; 112], b: [u8; 56]) -> [u8; 168] {
-    let mut log = [0u8; 168];
-    octets::copy(&a, &mut log);
-    octets::copy(&b, &mut log[112..]);
-    log
-}
-
-// Four records end to end.
-pub fn joined_4(a: [u8; 112], b: [u8; 112]) -> [u8; 224] {
-    let mut log = [0u8; 224];
-    octets::copy(&a, &mut log);
-    octets::copy(&b, &mut log[112..]);
-    log
-}
-
 // ---- checkpoints
 
 // A call of a checkpoint that puts no file out: the first, behind which the file is due, and the last.
@@ -261,30 +189,4 @@ pub fn filing(c: Collector) -> Collector {
     let mut out = [0u8; 1];
     let h = c.checkpoint(&mut out);
     left(h)
-}
-
-// The file, where it is due.
-fn file_due(c: Collector) -> Collector {
-    let mut out = [0u8; 6184];
-    let h = c.checkpoint(&mut out);
-    left(h)
-}
-
-// The three calls of a checkpoint.
-pub fn filed(c: Collector) -> Collector {
-    filing(file_due(filing(c)))
-}
-
-// The first call of Truncate: R of lane 1 is due.
-pub fn truncating(c: Collector, position: u64) -> Collector {
-    let h = c.truncate(position);
-    left(h)
-}
-
-// The file of a checkpoint.
-pub fn file_of(c: Collector) -> [u8; 6184] {
-    let d = filing(c);
-    let mut out = [0u8; 6184];
-    d.checkpoint(&mut out);
-    out
 }

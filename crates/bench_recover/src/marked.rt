@@ -1,4 +1,5 @@
 // The marked cases of the bench sheet: M1 to M12.
+use super::card;
 use super::recover;
 use bench_lines as write;
 use bench_made as made;
@@ -11,12 +12,13 @@ use sealed::record;
 fn shows(first: u8, second: u8) -> u64 {
     let x = vault::set_w(vault::new_vault(), 2, 6);
     let c = made::served(vault::set_v(x, 2, 6));
-    made::shown_lane(made::seen(made::seen(c, first, 10), second, 20))
+    card::shown_lane(made::seen(made::seen(c, first, 10), second, 20))
 }
 
 // The line of a Seal with room for the longest record.
 fn seals(name: &[u8], c: Collector) {
-    let h = made::seal_176(c);
+    let mut out = [0u8; 176];
+    let h = c.seal(&mut out);
     write::line(name, made::said(h));
 }
 
@@ -57,16 +59,16 @@ fn m3() {
 
 // The record behind number w of lane 0.
 fn behind(w: u64) -> [u8; 56] {
-    made::next(lane0(w, 0, 0), 0)
+    card::next(lane0(w, 0, 0), 0)
 }
 
 fn m4() {
-    let log = made::joined(behind(3), behind(4));
+    let log = card::joined(behind(3), behind(4));
     recover::logged(b"M4 R 3, V 5, log 4 5", lane0(5, 5, 3), &log);
 }
 
 fn m5() {
-    let log = made::joined(behind(4), behind(3));
+    let log = card::joined(behind(4), behind(3));
     recover::logged(b"M5 R 3, V 5, log 5 4", lane0(5, 5, 3), &log);
 }
 
@@ -76,15 +78,15 @@ fn m6() {
 }
 
 fn m7() {
-    let log = made::joined_3(made::joined(behind(3), behind(3)), behind(4));
+    let log = card::joined_3(card::joined(behind(3), behind(3)), behind(4));
     recover::logged(b"M7 R 3, V 5, log 4 4 5", lane0(5, 5, 3), &log);
 }
 
 // Records 3 to 6.
 fn log_3_6() -> [u8; 224] {
-    let first = made::joined(behind(2), behind(3));
-    let second = made::joined(behind(4), behind(5));
-    made::joined_4(first, second)
+    let first = card::joined(behind(2), behind(3));
+    let second = card::joined(behind(4), behind(5));
+    card::joined_4(first, second)
 }
 
 fn m8() {
@@ -93,12 +95,12 @@ fn m8() {
     write::line(b"M8 R 3, V 5, log 3 4 5 6", made::said(h));
     write::counted(
         b"M8 meter 0 shows number",
-        made::shown_number(made::left(h)),
+        card::shown_number(made::left(h)),
     );
 }
 
 fn m9() {
-    recover::bare(b"M9 R 5, V 3, W 5, empty log", lane0(5, 3, 5));
+    recover::lane(b"M9 R 5, V 3, W 5, empty log", 5, 3, 5);
 }
 
 // M10: lane 5, whichever came first.
@@ -161,15 +163,8 @@ fn m11() {
 }
 
 fn m12() {
-    let new = vault::new_vault();
-    recover::bare(
-        b"M12 S at the maximum less 2, no checkpoint",
-        vault::set_s(new, MAX - 2),
-    );
-    recover::bare(
-        b"M12 S at the maximum less 1, no checkpoint",
-        vault::set_s(new, MAX - 1),
-    );
+    recover::counters(b"M12 S at the maximum less 2, no checkpoint", 0, MAX - 2, 0);
+    recover::counters(b"M12 S at the maximum less 1, no checkpoint", 0, MAX - 1, 0);
 }
 
 // The lines of the marked cases.

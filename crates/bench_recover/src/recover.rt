@@ -1,5 +1,6 @@
 // Recover, in 15 or 24 calls: the first reads a checkpoint and a log, and each names a store. It can return 1, 3 and 8
 // to 13.
+use super::card;
 use bench_lines as write;
 use bench_made as made;
 use bench_made::MAX;
@@ -23,8 +24,19 @@ fn reads(name: &[u8], x: Vault, file: &[u8], log: &[u8]) {
 }
 
 // With no checkpoint and no log.
-pub fn bare(name: &[u8], x: Vault) {
+fn bare(name: &[u8], x: Vault) {
     reads(name, x, b"", b"");
+}
+
+// The same with these numbers of lane 0.
+pub fn lane(name: &[u8], w: u64, v: u64, r: u64) {
+    bare(name, lane0(w, v, r));
+}
+
+// With these E, S and N.
+pub fn counters(name: &[u8], e: u64, s: u64, n: u64) {
+    let x = vault::set_e(vault::new_vault(), e);
+    bare(name, vault::set_n(vault::set_s(x, s), n));
 }
 
 // With no checkpoint.
@@ -41,12 +53,12 @@ fn filed(name: &[u8], x: Vault, file: &[u8]) {
 
 // The first record of lane 0.
 fn one() -> [u8; 56] {
-    made::next(lane0(0, 0, 0), 0)
+    card::next(lane0(0, 0, 0), 0)
 }
 
 // The first two.
 fn one_two() -> [u8; 112] {
-    made::joined(one(), made::next(lane0(1, 0, 0), 0))
+    card::joined(one(), card::next(lane0(1, 0, 0), 0))
 }
 
 // The same without the last byte.
@@ -71,7 +83,7 @@ fn at_version(s: u64) -> Vault {
 
 // A checkpoint of version 1.
 fn version_1() -> [u8; 6184] {
-    made::file_of(made::fresh())
+    card::file_of(made::fresh())
 }
 
 // The same with a bit of its ciphertext turned over.
@@ -92,8 +104,8 @@ fn short() -> [u8; 6183] {
 // ---- the condition (1)
 
 fn condition() {
-    bare(b"recover, a cold collector", vault::new_vault());
-    bare(b"recover, V above W", lane0(4, 5, 5));
+    lane(b"recover, a cold collector", 0, 0, 0);
+    lane(b"recover, V above W", 4, 5, 5);
     room_1(b"recover, one in service", made::fresh());
 }
 
@@ -121,23 +133,13 @@ fn too_long() {
 
 // ---- the counters (8)
 
-fn counters() {
-    bare(b"recover, S at the maximum less 1", at_version(MAX - 1));
-    bare(b"recover, S at the maximum less 2", at_version(MAX - 2));
-    let new = vault::new_vault();
-    bare(
-        b"recover, N at the maximum less 1",
-        vault::set_n(new, MAX - 1),
-    );
-    bare(
-        b"recover, N at the maximum less 2",
-        vault::set_n(new, MAX - 2),
-    );
-    bare(b"recover, E at the maximum", vault::set_e(new, MAX));
-    bare(
-        b"recover, E at the maximum less 1",
-        vault::set_e(new, MAX - 1),
-    );
+fn spent() {
+    counters(b"recover, S at the maximum less 1", 0, MAX - 1, 0);
+    counters(b"recover, S at the maximum less 2", 0, MAX - 2, 0);
+    counters(b"recover, N at the maximum less 1", 0, 0, MAX - 1);
+    counters(b"recover, N at the maximum less 2", 0, 0, MAX - 2);
+    counters(b"recover, E at the maximum", MAX, 0, 0);
+    counters(b"recover, E at the maximum less 1", MAX - 1, 0, 0);
 }
 
 // ---- the checkpoint (9, 12)
@@ -145,7 +147,7 @@ fn counters() {
 fn needed() {
     let file = version_1();
     filed(b"recover, a checkpoint while S is 0", at_version(0), &file);
-    bare(b"recover, no checkpoint while S is 1", at_version(1));
+    counters(b"recover, no checkpoint while S is 1", 0, 1, 0);
     filed(b"recover, a checkpoint while S is 1", at_version(1), &file);
 }
 
@@ -192,7 +194,7 @@ fn epochs() {
     let y = vault::set_e(lane0(1, 1, 1), 1);
     logged(b"recover, another epoch, passed over", y, &log);
     let z = vault::set_e(lane0(1, 0, 0), 1);
-    let two = made::joined(log, made::next(z, 0));
+    let two = card::joined(log, card::next(z, 0));
     logged(
         b"recover, log 1 2, another epoch in 2",
         lane0(2, 2, 0),
@@ -201,14 +203,14 @@ fn epochs() {
 }
 
 fn turn() {
-    let second = made::next(lane0(1, 0, 0), 0);
+    let second = card::next(lane0(1, 0, 0), 0);
     logged(b"recover, log 2", lane0(2, 2, 0), &second);
-    let twice = made::joined(one(), one());
+    let twice = card::joined(one(), one());
     logged(b"recover, log 1 1", lane0(2, 2, 0), &twice);
 }
 
 fn missing() {
-    bare(b"recover, V of lane 0 not reached", lane0(1, 1, 0));
+    lane(b"recover, V of lane 0 not reached", 1, 1, 0);
     let log = one();
     logged(b"recover, V of lane 0 reached", lane0(1, 1, 0), &log);
     let x = vault::set_w(vault::new_vault(), 3, 1);
@@ -327,12 +329,12 @@ fn handed_out() -> Vault {
 }
 
 fn in_epoch(w: u64) -> [u8; 56] {
-    made::next(vault::set_e(lane0(w, 0, 0), 5), 0)
+    card::next(vault::set_e(lane0(w, 0, 0), 5), 0)
 }
 
 fn unseen_begun() -> Collector {
     let file = version_1();
-    let log = made::joined(in_epoch(1), in_epoch(2));
+    let log = card::joined(in_epoch(1), in_epoch(2));
     let h = first(handed_out(), &file, &log);
     write::call(b"recover, W above V", 1, made::said(h));
     made::left(h)
@@ -343,7 +345,7 @@ fn unseen() {
     let c = calls(b"recover, W above V", unseen_begun(), 2, 25);
     write::counted(
         b"recover, W above V, meter 0 shows number",
-        made::shown_number(c),
+        card::shown_number(c),
     );
     calls(b"recover, W above V", c, 25, 26);
 }
@@ -352,7 +354,7 @@ pub fn cases() {
     condition();
     longest();
     too_long();
-    counters();
+    spent();
     needed();
     damaged();
     versions();

@@ -1,46 +1,15 @@
 // Accept: a transaction, a lane, a position. It can return 1 and 4 to 8.
+use super::start;
+use super::start::Start;
 use bench_lines as write;
 use bench_made as made;
 use bench_made::MAX;
 use bench_made::lane0;
-use collector::Collector;
 
 // The line of an Accept of one write.
-fn one(name: &[u8], c: Collector, lane: u8, position: u64) {
-    let h = made::accept_one(c, lane, position);
+pub fn one(name: &[u8], s: Start, lane: u8, position: u64) {
+    let h = made::accept_one(start::begun(s), lane, position);
     write::line(name, made::said(h));
-}
-
-// On a new collector.
-fn fresh(name: &[u8], lane: u8, position: u64) {
-    one(name, made::fresh(), lane, position);
-}
-
-// On one with these numbers of lane 0.
-fn served(name: &[u8], w: u64, v: u64) {
-    one(name, made::served(lane0(w, v, 0)), 0, 10);
-}
-
-// On one that lists so many records, with this W of lane 0.
-fn listing(name: &[u8], count: usize, w: u64) {
-    let c = made::served(lane0(w, 0, 0));
-    one(name, made::listing(c, count), 0, 10);
-}
-
-// On one that keeps so many points.
-fn keeping(name: &[u8], count: usize) {
-    one(name, made::keeping(made::fresh(), count), 0, 10);
-}
-
-// On one whose newest point is at 10.
-fn pointed(name: &[u8], lane: u8, position: u64) {
-    one(name, made::pointing(made::fresh(), 10), lane, position);
-}
-
-// On one whose last record is at 10.
-fn used(name: &[u8], position: u64) {
-    let s = made::put(made::fresh(), 0, 10);
-    one(name, made::behind(s), 0, position);
 }
 
 // Of 16 writes.
@@ -50,32 +19,33 @@ fn sixteen(name: &[u8]) {
 }
 
 // Of 17 writes.
-fn seventeen(name: &[u8], lane: u8) {
-    let h = made::accept_17(made::fresh(), lane, 10);
+fn seventeen(name: &[u8], s: Start, lane: u8) {
+    let h = made::accept_17(start::begun(s), lane, 10);
     write::line(name, made::said(h));
 }
 
 // ---- the condition, and what is due (1)
 
-fn cold() {
-    one(b"accept, a cold collector", made::cold(), 0, 10);
-}
-
-fn due() {
-    fresh(b"accept, one in service", 0, 10);
-    let h = made::accept_one(made::fresh(), 0, 10);
-    one(b"accept, a record is due", made::left(h), 0, 11);
+fn condition() {
+    one(b"accept, a cold collector", Start::Cold, 0, 10);
+    one(b"accept, one in service", Start::Fresh, 0, 10);
+    one(b"accept, a record is due", Start::Held, 0, 11);
 }
 
 // ---- a state that breaks a rule (1)
 
 // Load's rule; 128 records, 8 points.
 fn broken() {
-    served(b"accept, V above W", 4, 5);
-    served(b"accept, V at W", 5, 5);
-    listing(b"accept, 129 records listed", 129, 0);
-    keeping(b"accept, 9 points kept", 9);
-    keeping(b"accept, 8 points kept", 8);
+    one(b"accept, V above W", Start::Lane0 { w: 4, v: 5 }, 0, 10);
+    one(b"accept, V at W", Start::Lane0 { w: 5, v: 5 }, 0, 10);
+    one(
+        b"accept, 129 records listed",
+        Start::Listing { count: 129, w: 0 },
+        0,
+        10,
+    );
+    one(b"accept, 9 points kept", Start::Keeping { count: 9 }, 0, 10);
+    one(b"accept, 8 points kept", Start::Keeping { count: 8 }, 0, 10);
 }
 
 // ---- the transaction's layout (4)
@@ -98,7 +68,7 @@ fn writes() {
         b"accept, one write and a byte",
         b"\x64\0\0\0\0\0\0\0\0\0\x01\0\x07\0\0\0\0",
     );
-    seventeen(b"accept, 17 writes", 0);
+    seventeen(b"accept, 17 writes", Start::Fresh, 0);
     sixteen(b"accept, 16 writes");
 }
 
@@ -141,61 +111,83 @@ fn order() {
 
 // Lanes 0 to 7; above every position used, and above the newest point.
 fn places() {
-    fresh(b"accept, lane 8", 8, 10);
-    fresh(b"accept, lane 7", 7, 10);
-    used(b"accept, at the last position", 10);
-    used(b"accept, above the last position", 11);
-    pointed(b"accept, at the newest point", 0, 10);
-    pointed(b"accept, above the newest point", 0, 11);
+    one(b"accept, lane 8", Start::Fresh, 8, 10);
+    one(b"accept, lane 7", Start::Fresh, 7, 10);
+    one(b"accept, at the last position", Start::Unseen, 0, 10);
+    one(b"accept, above the last position", Start::Unseen, 0, 11);
+    one(b"accept, at the newest point", Start::Pointed, 0, 10);
+    one(b"accept, above the newest point", Start::Pointed, 0, 11);
 }
 
 // ---- the list (7), the counter (8)
 
 // At most 128 records; W at the maximum.
 fn full() {
-    listing(b"accept, 128 records listed", 128, 0);
-    listing(b"accept, 127 records listed", 127, 0);
-    served(b"accept, W at the maximum", MAX, 0);
-    served(b"accept, W below the maximum", MAX - 1, 0);
-}
-
-// ---- the lowest number first
-
-// 1 before 4.
-fn first() {
-    let h = made::accept_17(made::cold(), 0, 10);
-    write::line(b"accept, a cold collector and 17 writes", made::said(h));
-}
-
-// 4 before 5, 5 before 6, 7 before 8.
-fn then() {
-    seventeen(b"accept, 17 writes and lane 8", 8);
-    pointed(b"accept, lane 8 and at the newest point", 8, 10);
-    listing(b"accept, 128 records listed and W at the maximum", 128, MAX);
-}
-
-// 6 before both.
-fn last() {
-    let c = made::listing(made::served(lane0(MAX, 0, 0)), 128);
     one(
-        b"accept, at the newest point, 128 records listed and W at the maximum",
-        made::pointing(c, 10),
+        b"accept, 128 records listed",
+        Start::Listing { count: 128, w: 0 },
+        0,
+        10,
+    );
+    one(
+        b"accept, 127 records listed",
+        Start::Listing { count: 127, w: 0 },
+        0,
+        10,
+    );
+    one(
+        b"accept, W at the maximum",
+        Start::Lane0 { w: MAX, v: 0 },
+        0,
+        10,
+    );
+    one(
+        b"accept, W below the maximum",
+        Start::Lane0 { w: MAX - 1, v: 0 },
         0,
         10,
     );
 }
 
+// ---- the lowest number first
+
+// 1 before 4, 4 before 5, 5 before 6, 7 before 8.
+fn lowest() {
+    seventeen(b"accept, a cold collector and 17 writes", Start::Cold, 0);
+    seventeen(b"accept, 17 writes and lane 8", Start::Fresh, 8);
+    one(
+        b"accept, lane 8 and at the newest point",
+        Start::Pointed,
+        8,
+        10,
+    );
+    one(
+        b"accept, 128 records listed and W at the maximum",
+        Start::Listing { count: 128, w: MAX },
+        0,
+        10,
+    );
+}
+
+// 6 before both.
+fn then() {
+    let c = start::listing(made::served(lane0(MAX, 0, 0)), 128);
+    let h = made::accept_one(start::pointing(c, 10), 0, 10);
+    write::line(
+        b"accept, at the newest point, 128 records listed and W at the maximum",
+        made::said(h),
+    );
+}
+
 // Accept's lines.
 pub fn cases() {
-    cold();
-    due();
+    condition();
     broken();
     writes();
     fields();
     order();
     places();
     full();
-    first();
+    lowest();
     then();
-    last();
 }

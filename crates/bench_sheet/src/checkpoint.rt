@@ -1,4 +1,8 @@
 // Checkpoint, in three calls: N, the file at the start of the lent buffer, S. It can return 1, 3 and 8.
+use super::accept;
+use super::point;
+use super::start;
+use super::start::Start;
 use bench_lines as write;
 use bench_made as made;
 use bench_made::MAX;
@@ -27,29 +31,35 @@ fn room_1(name: &[u8], c: Collector) {
     calls(name, c, &mut out);
 }
 
-// On one with these S and N.
-fn served(name: &[u8], version: u64, seal: u64) {
-    let x = vault::set_s(vault::new_vault(), version);
-    call(name, made::served(vault::set_n(x, seal)));
+// The line of the first call.
+fn starts(name: &[u8], s: Start) {
+    call(name, start::begun(s));
 }
 
-// The condition (1).
+// The condition, and what is due (1).
 fn condition() {
-    call(b"checkpoint, a cold collector", made::cold());
-}
-
-// What is due (1).
-fn due() {
-    let h = made::accept_one(made::fresh(), 0, 10);
-    call(b"checkpoint, a record is due", made::left(h));
+    starts(b"checkpoint, a cold collector", Start::Cold);
+    starts(b"checkpoint, a record is due", Start::Held);
 }
 
 // The counters (8).
 fn counters() {
-    served(b"checkpoint, S at the maximum", MAX, 0);
-    served(b"checkpoint, S below the maximum", MAX - 1, 0);
-    served(b"checkpoint, N at the maximum", 0, MAX);
-    served(b"checkpoint, N below the maximum", 0, MAX - 1);
+    starts(
+        b"checkpoint, S at the maximum",
+        Start::Counters { s: MAX, n: 0 },
+    );
+    starts(
+        b"checkpoint, S below the maximum",
+        Start::Counters { s: MAX - 1, n: 0 },
+    );
+    starts(
+        b"checkpoint, N at the maximum",
+        Start::Counters { s: 0, n: MAX },
+    );
+    starts(
+        b"checkpoint, N below the maximum",
+        Start::Counters { s: 0, n: MAX - 1 },
+    );
 }
 
 // The three calls, and the room (3): only the second puts bytes out.
@@ -76,17 +86,14 @@ fn whole() {
 
 // While its file is due no other call is taken (1).
 fn between() {
-    let c = made::filing(made::fresh());
-    let h = made::accept_one(c, 0, 10);
-    write::line(b"accept, a checkpoint is due", made::said(h));
-    let p = c.point(10);
-    write::line(b"point, a checkpoint is due", made::said(p));
+    accept::one(b"accept, a checkpoint is due", Start::FileDue, 0, 10);
+    point::points(b"point, a checkpoint is due", Start::FileDue, 10);
 }
 
 // The lowest number first.
 fn lowest() {
-    let x = vault::set_s(vault::new_vault(), MAX);
-    let h = made::accept_one(made::served(x), 0, 10);
+    let c = start::begun(Start::Counters { s: MAX, n: 0 });
+    let h = made::accept_one(c, 0, 10);
     call(
         b"checkpoint, a record is due and S at the maximum",
         made::left(h),
@@ -95,15 +102,20 @@ fn lowest() {
 
 // ---- the buffer: what stood there was 165
 
-fn fill_6183(c: Collector) -> [u8; 6183] {
+fn fill(s: Start, out: &mut [u8]) {
+    let c = start::begun(s);
+    c.checkpoint(out);
+}
+
+fn fill_6183(s: Start) -> [u8; 6183] {
     let mut out = [165u8; 6183];
-    c.checkpoint(&mut out);
+    fill(s, &mut out);
     out
 }
 
-fn fill_6185(c: Collector) -> [u8; 6185] {
+fn fill_6185(s: Start) -> [u8; 6185] {
     let mut out = [165u8; 6185];
-    c.checkpoint(&mut out);
+    fill(s, &mut out);
     out
 }
 
@@ -121,9 +133,9 @@ fn last_of_6185(b: [u8; 6185]) -> u64 {
 
 // Only the file is put out, where there is room for it, and the bytes behind it stay.
 fn unfilled() {
-    let none = fill_6185(made::fresh());
+    let none = fill_6185(Start::Fresh);
     write::counted(b"checkpoint, call 1, byte 0", first_of_6185(none));
-    let short = fill_6183(made::filing(made::fresh()));
+    let short = fill_6183(Start::FileDue);
     write::counted(
         b"checkpoint, call 2, room for 6183, byte 0",
         first_of_6183(short),
@@ -131,7 +143,7 @@ fn unfilled() {
 }
 
 fn filled() {
-    let long = fill_6185(made::filing(made::fresh()));
+    let long = fill_6185(Start::FileDue);
     write::counted(
         b"checkpoint, call 2, room for 6185, byte 0",
         first_of_6185(long),
@@ -144,7 +156,6 @@ fn filled() {
 
 pub fn cases() {
     condition();
-    due();
     counters();
     whole();
     between();

@@ -1,11 +1,13 @@
 // Commit: record bytes, from the card. It can return 1, 9, 10 and 11.
+use super::start;
+use super::start::Start;
 use bench_lines as write;
 use bench_made as made;
 use bench_made::lane0;
-use collector::Collector;
 
 // The line of a Commit.
-fn commits(name: &[u8], c: Collector, bytes: &[u8]) {
+fn commits(name: &[u8], s: Start, bytes: &[u8]) {
+    let c = start::begun(s);
     let h = c.commit(bytes);
     write::line(name, made::said(h));
 }
@@ -37,72 +39,64 @@ fn first() -> [u8; 56] {
     made::bytes_of(s)
 }
 
-// On a collector in service with these numbers of lane 0 and this epoch. The first record's number is 1, its epoch 0.
-fn served(name: &[u8], w: u64, v: u64, epoch: u64, bytes: &[u8]) {
-    let c = made::served(vault::set_e(lane0(w, v, 0), epoch));
-    commits(name, c, bytes);
-}
-
-// The condition (1).
+// The condition, and what is due (1).
 fn condition() {
     let b = first();
-    commits(b"commit, a cold collector", made::cold(), &b);
+    commits(b"commit, a cold collector", Start::Cold, &b);
+    commits(b"commit, a record is due", Start::Held, &b);
 }
 
-// While a record is due (1).
-fn due() {
-    let b = first();
-    let h = made::accept_one(made::fresh(), 0, 10);
-    commits(b"commit, a record is due", made::left(h), &b);
+// The first record is V + 1 of a collector that waits for it.
+fn waiting(name: &[u8], bytes: &[u8]) {
+    commits(name, Start::Lane0 { w: 1, v: 0 }, bytes);
 }
 
 // Bytes that open, and bytes that do not (9): too few, too many, a tag that is not right.
 fn closed() {
     let right = first();
-    served(b"commit, V + 1", 1, 0, 0, &right);
-    served(b"commit, no bytes", 1, 0, 0, b"");
+    waiting(b"commit, V + 1", &right);
+    waiting(b"commit, no bytes", b"");
     let short = shorter(right);
-    served(b"commit, a byte short", 1, 0, 0, &short);
+    waiting(b"commit, a byte short", &short);
     let long = longer(right);
-    served(b"commit, a byte long", 1, 0, 0, &long);
+    waiting(b"commit, a byte long", &long);
     let other = changed(right);
-    served(b"commit, a bit changed", 1, 0, 0, &other);
+    waiting(b"commit, a bit changed", &other);
 }
 
 // The epoch (10), and V itself (11).
 fn stale() {
     let b = first();
-    served(b"commit, another epoch", 1, 0, 1, &b);
-    served(b"commit, V itself", 1, 1, 0, &b);
+    commits(b"commit, another epoch", Start::Epoch { w: 1, e: 1 }, &b);
+    commits(b"commit, V itself", Start::Lane0 { w: 1, v: 1 }, &b);
 }
 
 // V + 2 (11).
 fn skipped() {
     let s = made::put(made::served(lane0(1, 0, 0)), 0, 10);
     let b = made::bytes_of(s);
-    commits(b"commit, V + 2", made::behind(s), &b);
+    let c = made::behind(s);
+    let h = c.commit(&b);
+    write::line(b"commit, V + 2", made::said(h));
 }
 
-// V + 1, above W (11).
+// V + 1, above W (11); the lowest number first.
 fn unknown() {
     let b = first();
-    served(b"commit, above W", 0, 0, 0, &b);
-}
-
-// The lowest number first.
-fn lowest() {
-    commits(b"commit, a cold collector and no bytes", made::cold(), b"");
-    let b = first();
-    served(b"commit, another epoch and above W", 0, 0, 1, &b);
+    commits(b"commit, above W", Start::Fresh, &b);
+    commits(b"commit, a cold collector and no bytes", Start::Cold, b"");
+    commits(
+        b"commit, another epoch and above W",
+        Start::Epoch { w: 0, e: 1 },
+        &b,
+    );
 }
 
 // Commit's lines.
 pub fn cases() {
     condition();
-    due();
     closed();
     stale();
     skipped();
     unknown();
-    lowest();
 }

@@ -1,12 +1,13 @@
 // 01's cases, run on the compiled code: for each operation and each number that it can return a case just inside and one
-// just outside. A line a case (`bench_lines`). Those of Recover, and the marked cases, are `bench_recover`'s.
+// just outside. A line a case (`bench_lines`). Those of Truncate and Recover, and the marked cases, are
+// `bench_recover`'s.
 mod accept;
 mod checkpoint;
 mod commit;
 mod load;
 mod point;
 mod seal;
-mod truncate;
+mod start;
 
 fn main() {
     load::cases();
@@ -15,5 +16,4 @@ fn main() {
     commit::cases();
     point::cases();
     checkpoint::cases();
-    truncate::cases();
 }

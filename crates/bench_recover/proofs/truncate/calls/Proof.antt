@@ -1,10 +1,10 @@
--- `bench_sheet::truncate::calls` is safe and ends. Nothing has to be kept from call to call; the measure is the calls left.
+-- `bench_recover::truncate::calls` is safe and ends. Nothing has to be kept from call to call; the measure is the calls left.
 -- Assumes nothing.
 use Prim.Native.Nat.{_-_, _≤_}
 use native.Mathlib.Omega.{arith}
 use borrow.Author.Needs.{needs}
-use Rattle.bench_sheet.proofs.truncate.calls.Statement.{statement}
-use Rattle.bench_sheet.proofs.truncate.calls.Tie as tie
+use Rattle.bench_recover.proofs.truncate.calls.Statement.{statement}
+use Rattle.bench_recover.proofs.truncate.calls.Tie as tie
 
 abbrev Inv-loop : tie.InvT-loop
 Inv-loop from to d₀ k₀ d k = 0 ≤ k

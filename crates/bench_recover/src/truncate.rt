@@ -1,13 +1,31 @@
 // Truncate at a covered point, in nine calls: R of lanes 0 to 7, and the deletion. It can return 1 and 14.
-use super::checkpoint;
 use bench_lines as write;
 use bench_made as made;
 use collector::Collector;
+use collector::Handed;
 
 // A call, and the collector behind it.
 fn call(name: &[u8], c: Collector, position: u64) -> Collector {
     let h = c.truncate(position);
     write::line(name, made::said(h));
+    made::left(h)
+}
+
+// A call of Checkpoint with room for the file.
+fn file(c: Collector) -> Handed {
+    let mut out = [0u8; 6184];
+    c.checkpoint(&mut out)
+}
+
+// Behind the three calls of a checkpoint.
+fn filed(c: Collector) -> Collector {
+    let h = file(made::filing(c));
+    made::filing(made::left(h))
+}
+
+// The first call of Truncate: R of lane 1 is due.
+fn truncating(c: Collector, position: u64) -> Collector {
+    let h = c.truncate(position);
     made::left(h)
 }
 
@@ -27,7 +45,7 @@ fn pointed() -> Collector {
 
 // The same, the point covered.
 fn covered() -> Collector {
-    made::filed(pointed())
+    filed(pointed())
 }
 
 // The same with a point at 30 that is not covered.
@@ -42,12 +60,13 @@ fn condition() {
     call(b"truncate, a cold collector", made::cold(), 21);
 }
 
-// What is due (1): a record, a checkpoint.
+// Where a record is due.
 fn due(name: &[u8], position: u64) {
     let h = made::accept_one(covered(), 0, 30);
     call(name, made::left(h), position);
 }
 
+// What is due (1): a record, a checkpoint.
 fn filing() {
     due(b"truncate, a record is due", 21);
     due(b"truncate, a record is due and no such point", 20);
@@ -73,9 +92,10 @@ fn later() {
 
 // Another position, or another call, while going on (1).
 fn going() {
-    let d = made::truncating(covered(), 21);
+    let d = truncating(covered(), 21);
     call(b"truncate, call 2 at another position", d, 22);
-    checkpoint::call(b"checkpoint, R of lane 1 is due", d);
+    let h = file(d);
+    write::line(b"checkpoint, R of lane 1 is due", made::said(h));
 }
 
 // A call of several at position 21.
