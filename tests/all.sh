@@ -45,6 +45,8 @@ case "$status $verdict" in
     ;;
 esac
 
+sh tests/axioms.sh
+
 # The archives are made one after the other, since rt keeps its notes in target/, the one with the longest tests first.
 # What tests an archive runs beside the making of the next.
 rt staticlib paviluko | tail -n 1
