@@ -45,8 +45,6 @@ case "$status $verdict" in
     ;;
 esac
 
-sh tests/axioms.sh
-
 # The archives are made one after the other, since rt keeps its notes in target/, the one with the longest tests first.
 # What tests an archive runs beside the making of the next.
 rt staticlib paviluko | tail -n 1
@@ -57,6 +55,8 @@ rt staticlib sealed_c | tail -n 1
 beside sealed
 rt staticlib cipher_c | tail -n 1
 beside cipher
+
+sh tests/axioms.sh paviluko sealed_c cipher_c
 
 failed=
 for test in cipher sealed boundary histories program; do
