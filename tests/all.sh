@@ -28,9 +28,9 @@ sh tests/cipher/packages.sh gcc libc6-dev libssl-dev python3 python3-cryptograph
 
 rt fmt --check
 
-# rt ci starts so many checks and waits for the last of them before it starts more. With three to a processor less time is
-# lost behind the slowest; a check takes 1 to 2.5 GB.
-jobs=$((3 * $(nproc)))
+# rt ci starts so many checks at a time and waits for the last of them before it starts more: with one more than there are
+# processors less time is lost behind the slowest, and more than that cost more than they spare. A check takes 1 to 2.5 GB.
+jobs=$(($(nproc) + 1))
 room=$(awk '/^MemAvailable:/ { print int($2 / 2000000) }' /proc/meminfo)
 [ "$jobs" -le "$room" ] || jobs=$room
 [ "$jobs" -ge 1 ] || jobs=1
