@@ -1,6 +1,6 @@
 -- Load, and the call by which Recover is accepted, keep the invariant: what opens was put out, so the reading comes to the whole book.
 -- Assumes nothing.
-use Prim.Native.Nat.{ℕ, _+_, _≤_}
+use Prim.Native.Nat.{ℕ, _≤_}
 use mathlib.Core.Path.{_≡_, refl, subst}
 use mathlib.Core.Bool.{Bool, true, false, cond, not}
 use mathlib.Core.Option.{Option, none, some}
@@ -16,7 +16,7 @@ use Rattle.sealed.specs.Record.{Opened, openRecord}
 use Rattle.sealed.specs.Log.{recordsIn}
 use Rattle.sealed.specs.Checkpoint.{OpenedFile, openFile}
 use Rattle.sealed.proofs.LogTrip.{file-not-record, record-not-file}
-use Rattle.protocol.specs.Vaults.{counterMax, vaultOk}
+use Rattle.protocol.specs.Vaults.{vaultOk}
 use Rattle.protocol.specs.Said.{refuse, taking}
 use Rattle.protocol.specs.Load.{keyLen, loaded, blank, load}
 use Rattle.protocol.specs.Replay.{Read, stopped, reading, replay}

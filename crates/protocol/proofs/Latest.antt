@@ -10,7 +10,7 @@ use mathlib.Core.Path.{_≡_, refl, sym, ap, subst, _∙_}
 use mathlib.Core.Bool.{Bool, true, false, cond}
 use mathlib.Core.Option.{Option, none, some}
 use mathlib.Core.Logic.{_⊎_, inl, inr}
-use mathlib.Core.List.{List, [], _∷_, _++_, List·Memᴰ, List·Memᴰ·head, List·Memᴰ·tail, List·Memᴰ·not-nil, List·Memᴰ·append-cases, List·Memᴰ·eq-of-singleton, Memᴰ·append-left, Memᴰ·append-right}
+use mathlib.Core.List.{List, [], _∷_, _++_, List·Memᴰ, List·Memᴰ·head, List·Memᴰ·not-nil, List·Memᴰ·append-cases, List·Memᴰ·eq-of-singleton, Memᴰ·append-left, Memᴰ·append-right}
 use native.Mathlib.Omega.{arith}
 use native.Mathlib.Decide.{decLt}
 use lib.ListN.{getD, set, length, List·getD-eq-default}
@@ -21,8 +21,8 @@ use Rattle.table.specs.declared.Table.{Table}
 use Rattle.table.specs.Order.{later, latest}
 use Rattle.table.specs.Table.{noEntry, emptyTable}
 use Rattle.table.specs.Written.{newest}
-use Rattle.table.specs.Canonical.{Canonical, absent, present, CanonicalTable}
-use Rattle.table.proofs.OrderLaws.{later-irrefl, later-same, not-later-trans, latest-either, latest-absent, latest-top}
+use Rattle.table.specs.Canonical.{present, CanonicalTable}
+use Rattle.table.proofs.OrderLaws.{later-irrefl, not-later-trans, latest-either, latest-absent, latest-top}
 use Rattle.table.proofs.EnteredLaws.{length-entered, entered-at, written-times, entered-canonical, empty-at, empty-canonical}
 use Rattle.sealed.specs.Record.{Opened}
 use Rattle.protocol.proofs.Basis.{write, withRecord, Writable}

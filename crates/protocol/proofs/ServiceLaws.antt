@@ -4,14 +4,14 @@
 -- Assumes nothing.
 use Prim.Native.Nat.{ℕ, suc, _+_, _-_, _≤_, _<_, pred}
 use mathlib.Core.Path.{_≡_, refl, sym, ap, ap₂, subst, subst₂, _∙_}
-use mathlib.Core.Bool.{Bool, true, false, cond, not, _&&_, _||_}
+use mathlib.Core.Bool.{Bool, true, false, cond, _||_}
 use mathlib.Core.Option.{Option, some}
 use mathlib.Core.List.{List, [], _∷_, _++_, map, List·Memᴰ, List·Memᴰ·head, List·Memᴰ·tail}
 use native.Mathlib.Omega.{arith}
 use lib.Dec.{leb, ltb, eqb}
-use lib.ListN.{length, take, set, replicate}
+use lib.ListN.{length, set}
 use lib.Seq.{take-append-seam, take-suc-set, length-take-le, getD-set-same}
-use borrow.Author.Tests.{le-leb, le-ltb, lt-ltb, leb-false, eq-eqb, not-false}
+use borrow.Author.Tests.{le-leb, le-ltb, lt-ltb, eq-eqb}
 use Rattle.octets.specs.Lists.{at}
 use Rattle.octets.proofs.BoolLaws.{and-false}
 use Rattle.reading.specs.Transaction.{maxText, legal}
@@ -21,20 +21,19 @@ use Rattle.table.proofs.OrderLaws.{clash}
 use Rattle.sealed.specs.Aead.{aesGcm}
 use Rattle.sealed.specs.Frame.{frameLen}
 use Rattle.sealed.specs.Record.{Opened, laneOf, numberOf, recordBytes, openRecord}
-use Rattle.sealed.specs.Checkpoint.{fileLen, fileBytes}
+use Rattle.sealed.specs.Checkpoint.{fileBytes}
 use Rattle.sealed.proofs.RecordTrip.{length-record}
 use Rattle.sealed.proofs.LogTrip.{opened-from}
 use Rattle.protocol.specs.Vaults.{counterMax, vaultOk, setN}
-use Rattle.protocol.specs.States.{listed, pointsMax, valid, serving, ready, heldText, withVault}
-use Rattle.protocol.specs.Said.{taken, Answered, refuse}
-use Rattle.protocol.specs.Accept.{isRecord, tooLow, listedMore, holding, accepted, accept, heldRecord, holds, seal}
+use Rattle.protocol.specs.States.{listed, pointsMax, valid, ready, heldText, withVault}
+use Rattle.protocol.specs.Said.{taken, refuse}
+use Rattle.protocol.specs.Accept.{tooLow, listedMore, holding, accepted, accept, heldRecord, holds, seal}
 use Rattle.protocol.specs.Commit.{committed, outOfTurn, commitOpened, commit}
 use Rattle.protocol.specs.Point.{marksOf, laneCount, unseenBelow, pointAt, pointsMore, pointed, point}
-use Rattle.protocol.specs.Checkpoint.{coveredPoint, coveredPoints, checkpointed, checkpoint}
-use Rattle.protocol.specs.Truncate.{pointsOf, findPoint, pointsAbove, droppedTo, truncate}
-use Rattle.protocol.specs.Tally.{truncateStores, Names, Dropped, Covered, Truncates}
+use Rattle.protocol.specs.Checkpoint.{coveredPoint, coveredPoints, checkpointed}
+use Rattle.protocol.specs.Truncate.{pointsOf, findPoint, pointsAbove, droppedTo}
+use Rattle.protocol.specs.Tally.{truncateStores, Dropped, Covered, Truncates}
 use Rattle.protocol.specs.History.{Event, Placed, placedFrom, settled, isTaken}
-use Rattle.protocol.specs.Since.{anyFrom, standing}
 use Rattle.protocol.specs.Claim.{after}
 use Rattle.protocol.specs.Beside.{unseenOn, laneOn, Idle, since, AcceptSays, SealsTheAccepted, CommitTakes, PointSays, PointIsKept, PointsCount, TruncatesNine, CheckpointsThree}
 use Rattle.protocol.specs.declared.Vault.{Vault}
@@ -44,7 +43,7 @@ use Rattle.protocol.specs.declared.State.{State}
 use Rattle.protocol.specs.declared.Phase.the-variants as F
 use Rattle.protocol.specs.declared.Due.the-variants as D
 use Rattle.protocol.specs.declared.Store.the-variants as S
-use Rattle.protocol.proofs.VaultLaws.{StateFine, vault-fine, fine-vault, state-fine, fine-state, fine-n, fine-s}
+use Rattle.protocol.proofs.VaultLaws.{StateFine, vault-fine, fine-vault, fine-state, fine-n, fine-s}
 use Rattle.protocol.proofs.Walks.{walk-accept, walk-point, past-refuse, at-refuse}
 use Rattle.protocol.proofs.Basis.{Writable, bytesOf, opens}
 use Rattle.protocol.proofs.Card.{Spot, spotsFrom, cnt, Consec, Rising, Cut, kept, left, cut-at, from-nil, rest-from, cnt-from, mem-from, placedOf, placed-from}
@@ -54,7 +53,7 @@ use Rattle.protocol.proofs.StoreLaws.{lanes-w}
 use Rattle.protocol.proofs.KeepPoint.{count-map}
 use Rattle.protocol.proofs.KeepTruncate.{found-in, above-mem, above-last}
 use Rattle.protocol.proofs.KeepCheckpoint.{cover-ascend}
-use Rattle.protocol.proofs.TallyLaws.{names-to, Cut as Truncated, truncate-tally, Three, checkpoint-three, checkpoint-tally}
+use Rattle.protocol.proofs.TallyLaws.{names-to, Cut as Truncated, truncate-tally, checkpoint-three, checkpoint-tally}
 use Rattle.protocol.proofs.SinceLaws.{Fits, listed-count, fits-list}
 use Rattle.protocol.proofs.Runs.{listed-invariant}
 

@@ -1,26 +1,25 @@
 -- The journal and the points of a state in service are those that the list has used and set since service began: the last position used and the
 -- newest point are the greatest of them, and the listed records are those that no point lies above. Each call keeps that; no premise is needed.
 -- Assumes nothing.
-use Prim.Native.Nat.{ℕ, zero, suc, _≤_, _<_}
-use mathlib.Core.Path.{_≡_, refl, sym, ap, ap₂, subst, _∙_}
+use Prim.Native.Nat.{ℕ, suc, _≤_, _<_}
+use mathlib.Core.Path.{_≡_, refl, sym, ap, subst, _∙_}
 use mathlib.Core.Bool.{Bool, true, false, cond, not, _&&_, _||_}
 use mathlib.Core.List.{List, [], _∷_, _++_, map}
 use mathlib.Core.Option.{Option, none, some}
 use native.Mathlib.Omega.{arith}
-use lib.Dec.{leb, ltb}
-use lib.ListN.{length, set, length-set, length-map, replicate}
+use lib.Dec.{leb}
+use lib.ListN.{length, length-set, length-map}
 use borrow.Author.Tests.{leb-true, leb-false, le-leb, lt-leb, not-false}
 use Rattle.octets.proofs.BoolLaws.{and-left, and-right, or-left, or-right}
-use Rattle.table.proofs.OrderLaws.{clash}
-use Rattle.protocol.specs.States.{listed, noJournal, noPoints, valid, serving, isNothing, ready, withVault, withPoints}
-use Rattle.protocol.specs.Said.{Said, refused, taken, Answered, refusing, taking}
+use Rattle.protocol.specs.States.{listed, noJournal, noPoints, valid, serving, isNothing, ready}
+use Rattle.protocol.specs.Said.{Said, refused, taken, Answered}
 use Rattle.protocol.specs.Load.{loaded, load}
-use Rattle.protocol.specs.Accept.{tooLow, listedMore, accepted, accept, seal}
-use Rattle.protocol.specs.Commit.{committed, commit}
-use Rattle.protocol.specs.Point.{Mark, marksTo, marksOf, marksFrom, journalOf, pointAt, pointsMore, pointed, point}
-use Rattle.protocol.specs.Checkpoint.{coveredPoints, checkpointed, checkpoint}
-use Rattle.protocol.specs.Truncate.{droppedTo, truncate}
-use Rattle.protocol.specs.Recover.{recovered, inService, recover}
+use Rattle.protocol.specs.Accept.{tooLow, listedMore, accepted}
+use Rattle.protocol.specs.Commit.{committed}
+use Rattle.protocol.specs.Point.{Mark, marksTo, marksOf, marksFrom, journalOf, pointAt, pointsMore, pointed}
+use Rattle.protocol.specs.Checkpoint.{coveredPoints, checkpointed}
+use Rattle.protocol.specs.Truncate.{droppedTo}
+use Rattle.protocol.specs.Recover.{recovered, inService}
 use Rattle.protocol.specs.History.{Call, callLoad, callAccept, callSeal, callCommit, callPoint, callCheckpoint, callTruncate, callRecover, Event, call, cut, Lasting, World, newWorld, afterSaid, afterAnswer, answerOf, firstAnswer, answer, next, run}
 use Rattle.protocol.specs.Since.{Since, nothingSince, sinceTaken, sinceSaid, sinceAnswer, sinceNext, sinceRun, anyFrom, standing}
 use Rattle.protocol.specs.declared.Vault.{Vault}

@@ -4,15 +4,14 @@
 -- Assumes nothing.
 use Prim.Native.Nat.{ℕ, zero, suc, _+_, _≤_, _<_}
 use mathlib.Core.Path.{_≡_, refl, sym, ap, ap₂, _∙_, subst}
-use mathlib.Core.Bool.{Bool, true, false, cond, not, _||_}
+use mathlib.Core.Bool.{Bool, true, false, cond, not}
 use mathlib.Core.List.{List, [], _∷_, _++_}
 use mathlib.Core.Option.{Option, some, none}
 use native.Mathlib.Omega.{arith}
-use lib.Dec.{leb, ltb, eqb}
+use lib.Dec.{eqb}
 use lib.ListN.{length}
-use borrow.Author.Tests.{ltb-false, leb-false, lt-leb, le-ltb, lt-ltb, eq-eqb, eqb-true, not-false}
+use borrow.Author.Tests.{lt-leb, le-ltb, lt-ltb, eq-eqb, eqb-true, not-false}
 use Rattle.octets.specs.Lists.{at}
-use Rattle.octets.proofs.BoolLaws.{or-left, or-right}
 use Rattle.reading.specs.Every.{allBelow}
 use Rattle.reading.proofs.EveryLaws.{and-true, all-at, all-of}
 use Rattle.table.specs.declared.Table.{Table}

@@ -1,51 +1,47 @@
 -- Demand 3: since every list keeps the invariants, the table of an accepted recovery is the book's, and a faithful card is taken.
 -- Assumes nothing.
-use Prim.Native.Nat.{ℕ, zero, suc, _+_, _-_, _≤_}
-use mathlib.Core.Path.{_≡_, refl, sym, ap, ap₂, subst, subst₂, _∙_}
-use mathlib.Core.Bool.{Bool, true, false, cond, not, _&&_}
+use Prim.Native.Nat.{ℕ, zero, suc, _-_, _≤_}
+use mathlib.Core.Path.{_≡_, refl, sym, ap, ap₂, subst, _∙_}
+use mathlib.Core.Bool.{true, false, cond, _&&_}
 use mathlib.Core.Option.{Option, none, some}
 use mathlib.Core.List.{List, [], _∷_, map, List·Memᴰ}
 use native.Mathlib.Omega.{arith}
 use lib.Dec.{eqb}
-use lib.ListN.{getD, length, length-map}
-use borrow.Author.Tests.{le-leb, lt-leb, le-ltb, eq-eqb, ne-eqb}
+use lib.ListN.{length, length-map}
+use borrow.Author.Tests.{le-leb, le-ltb, eq-eqb, ne-eqb}
 use Rattle.reading.proofs.EveryLaws.{and-both}
-use Rattle.table.specs.Table.{lanes, noEntry, emptyTable}
+use Rattle.table.specs.Table.{lanes, emptyTable}
 use Rattle.table.proofs.OrderLaws.{clash}
 use Rattle.table.specs.declared.Table.{Table}
 use Rattle.sealed.specs.Aead.{aesGcm}
 use Rattle.sealed.specs.Record.{Opened}
 use Rattle.sealed.specs.Log.{recordsIn}
-use Rattle.sealed.specs.Checkpoint.{OpenedFile, fileBytes, versionOf, openFile}
+use Rattle.sealed.specs.Checkpoint.{OpenedFile, versionOf, openFile}
 use Rattle.sealed.proofs.LogTrip.{version-is}
-use Rattle.protocol.specs.Vaults.{counterMax, vaultOk}
+use Rattle.protocol.specs.Vaults.{vaultOk}
 use Rattle.protocol.specs.States.{listed, pointsMax, valid, isNothing}
 use Rattle.protocol.specs.Said.{Said, refused, taken, Answered, refuse, taking}
 use Rattle.protocol.specs.Load.{keyLen, loaded, load}
-use Rattle.protocol.specs.Truncate.{pointsOf}
-use Rattle.protocol.specs.Replay.{Read, stopped, reading}
-use Rattle.protocol.specs.Recover.{logMax, spent, recovered, recoverRead, recoverLog, recoverFile, otherVersion, recoverFrom, recoverFirst, recoverDue, recoverPhase, recover, inService}
+use Rattle.protocol.specs.Recover.{logMax, spent, recovered, recoverRead, recoverLog, recoverFile, otherVersion, recoverFrom, recoverFirst, recoverPhase, recover, inService}
 use Rattle.protocol.specs.LatestOf.{LatestOf}
-use Rattle.protocol.specs.History.{Event, call, callRecover, World, newWorld, Lasting, settled, done, bookAfter, afterSaid, afterAnswer, answer, answerOf, addsOf, next, isTaken, PutOut, Honest, faithfulLog, FaithfulFile}
+use Rattle.protocol.specs.History.{call, callRecover, World, Lasting, settled, done, bookAfter, afterSaid, afterAnswer, answer, answerOf, addsOf, next, isTaken, PutOut, Honest, faithfulLog, FaithfulFile}
 use Rattle.protocol.specs.Beside.{NotLower, longestLog, LogIsShort, NoStoreLowers, Beside}
-use Rattle.protocol.specs.Claim.{Unspent, TakenUnlessSpent, HasLatest, after, Listed, TableIsTheBooks, LatestIsOne, FaithfulCardIsTaken, LoadIsTaken, CardHasAFile, FaithfulCardIsHonest, Demand3}
+use Rattle.protocol.specs.Claim.{TakenUnlessSpent, HasLatest, after, TableIsTheBooks, LatestIsOne, FaithfulCardIsTaken, LoadIsTaken, CardHasAFile, FaithfulCardIsHonest, Demand3}
 use Rattle.protocol.specs.declared.Vault.{Vault}
 use Rattle.protocol.specs.declared.State.{State}
 use Rattle.protocol.specs.declared.Phase.{Phase}
 use Rattle.protocol.specs.declared.Phase.the-variants as F
-use Rattle.protocol.specs.declared.Due.{Due}
 use Rattle.protocol.specs.declared.Due.the-variants as D
 use Rattle.protocol.specs.declared.Store.the-variants as S
 use Rattle.protocol.proofs.SpentLaws.{unspent-passes, spent-else}
 use Rattle.protocol.proofs.Walks.{walk-recover, past-refuse, at-refuse}
-use Rattle.protocol.proofs.VaultLaws.{vault-fine, fine-vault, state-fine, fine-state}
 use Rattle.protocol.proofs.Basis.{Writable, bytesOf, fileOf, file-opens, empty-file}
 use Rattle.protocol.proofs.Latest.{In, Full}
 use Rattle.protocol.proofs.BookLaws.{full-latest, latest-one}
 use Rattle.protocol.proofs.LaidLaws.{laidOut, AllWritable, laid-length, records-laid}
 use Rattle.protocol.proofs.Card.{Spot, recsOf, mem-recs}
 use Rattle.protocol.proofs.Faith.{read-faithful}
-use Rattle.protocol.proofs.Invariant.{Durable, vaultTo, Durably, Cold, Service, LinkedAt, Linked, LinkedIf, Apart, Invariant, GoodSaid, known, At}
+use Rattle.protocol.proofs.Invariant.{Durable, vaultTo, Durably, Cold, LinkedAt, Linked, LinkedIf, Apart, Invariant, GoodSaid, known, At}
 use Rattle.protocol.proofs.TallyLaws.{recovery-tally}
 use Rattle.protocol.proofs.ServiceLaws.{vault-ok, accepts, seals, commits, points, keeps, counts, nine, three}
 use Rattle.protocol.proofs.Apart.{mem-map, map-mem, faithful-log}

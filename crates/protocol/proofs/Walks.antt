@@ -3,28 +3,26 @@
 -- Assumes nothing.
 use Prim.Native.Nat.{ℕ, suc, _≤_, _<_}
 use mathlib.Core.Path.{_≡_, refl, sym}
-use mathlib.Core.Bool.{Bool, true, false, cond, not, _&&_, _||_}
+use mathlib.Core.Bool.{Bool, true, false, cond, not, _&&_}
 use mathlib.Core.List.{List, [], _∷_}
 use mathlib.Core.Option.{Option, some, none}
 use native.Mathlib.Omega.{arith}
 use lib.Dec.{leb, eqb}
 use borrow.Author.Tests.{leb-false, not-false}
-use lib.ListN.{length}
 use Rattle.octets.specs.Lists.{at}
 use Rattle.reading.specs.Transaction.{legal}
 use Rattle.table.specs.declared.Table.{Table}
-use Rattle.table.specs.Table.{lanes, emptyTable}
+use Rattle.table.specs.Table.{lanes}
 use Rattle.table.proofs.OrderLaws.{clash}
-use Rattle.sealed.specs.Aead.{aesGcm}
-use Rattle.sealed.specs.Record.{Opened, openRecord}
-use Rattle.sealed.specs.Checkpoint.{OpenedFile, openFile}
-use Rattle.protocol.specs.Vaults.{counterMax, vaultOk}
+use Rattle.sealed.specs.Record.{Opened}
+use Rattle.sealed.specs.Checkpoint.{OpenedFile}
+use Rattle.protocol.specs.Vaults.{counterMax}
 use Rattle.protocol.specs.States.{listed, pointsMax, ready, withVault, withPoints}
 use Rattle.protocol.specs.Said.{Said, refused, Answered, refusing, taking, refuse}
 use Rattle.protocol.specs.Load.{keyLen, loaded, blank, load}
-use Rattle.protocol.specs.Accept.{tooLow, accepted, accept, heldRecord, holds, seal}
-use Rattle.protocol.specs.Commit.{committed, outOfTurn, commitOpened, commit}
-use Rattle.protocol.specs.Point.{marksOf, unseenBelow, pointed, point}
+use Rattle.protocol.specs.Accept.{tooLow, accepted, accept, heldRecord, seal}
+use Rattle.protocol.specs.Commit.{committed, commitOpened, commit}
+use Rattle.protocol.specs.Point.{pointed, point}
 use Rattle.protocol.specs.Checkpoint.{checkpointed, checkpointDue, checkpoint}
 use Rattle.protocol.specs.Truncate.{droppedTo, truncateLane, truncateFirst, truncateNext, truncateDue, truncate}
 use Rattle.protocol.specs.Replay.{Read, stopped, reading}

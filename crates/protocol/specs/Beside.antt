@@ -1,7 +1,7 @@
 -- What is said beside demand 3, after any list that keeps to the premises: that the vault's numbers only rise and a faithful log is short, the
 -- stores of the longer operations, and 01's sentences on a collector in service. The proofs are in proofs/ServiceLaws.antt and proofs/Theorem.antt.
 -- Assumes nothing.
-use Prim.Native.Nat.{ℕ, zero, suc, _+_, _*_, _≤_, _<_}
+use Prim.Native.Nat.{ℕ, suc, _+_, _*_, _≤_, _<_}
 use mathlib.Core.Path.{_≡_}
 use mathlib.Core.Bool.{Bool, true, false, cond, not, _&&_, _||_}
 use mathlib.Core.List.{List, [], _∷_, _++_, List·Memᴰ}
