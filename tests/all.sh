@@ -4,8 +4,9 @@
 set -euo pipefail
 cd "$(dirname "$0")/.."
 
-work=$(mktemp -d)
+work=$(sh tools/scratch.sh)
 trap 'wait; rm -rf "$work"' EXIT
+export TMPDIR="$work"
 declare -A started
 
 # Starts a test beside what follows.
@@ -28,9 +29,9 @@ sh tests/cipher/packages.sh gcc libc6-dev libssl-dev python3 python3-cryptograph
 
 rt fmt --check
 
-# rt ci starts so many checks at a time and waits for the last of them before it starts more: with one more than there are
-# processors less time is lost behind the slowest, and more than that cost more than they spare. A check takes 1 to 2.5 GB.
-jobs=$(($(nproc) + 1))
+# As many checks at a time as there are processors: with more, each costs more processor time than the waiting spares. A check takes
+# 1 to 2.5 GB.
+jobs=$(nproc)
 room=$(awk '/^MemAvailable:/ { print int($2 / 2000000) }' /proc/meminfo)
 [ "$jobs" -le "$room" ] || jobs=$room
 [ "$jobs" -ge 1 ] || jobs=1

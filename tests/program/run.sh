@@ -15,9 +15,7 @@ PAVILUKO_LIB=$(cd "$(dirname "$library")" && pwd)
 export PAVILUKO_LIB
 sh tests/cipher/packages.sh gcc libc6-dev
 
-memory=/dev/shm
-[ -d "$memory" ] && [ -w "$memory" ] || memory=${TMPDIR:-/tmp}
-place=$(mktemp -d "$memory/paviluko-program.XXXXXX")
+place=$(sh tools/scratch.sh)
 trap 'rm -rf "$place"' EXIT
 trap 'exit 1' INT TERM
 log=$place/log
