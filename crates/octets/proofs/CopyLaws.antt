@@ -8,7 +8,7 @@ use native.Mathlib.Numerals.{add-one}
 use native.Mathlib.Omega.{arith}
 use lib.Bits.{bitXor}
 use lib.ListN.{length, getD, take, drop, set, replicate, length-append, length-take, length-drop, drop-of-length-le}
-use lib.Seq.{take-all, take-nil, sets, sets-eq}
+use lib.Seq.{take-all, take-nil, sets, sets-eq, lt-length-sets}
 use Rattle.octets.specs.Lists.{at, from, tab, over}
 use Rattle.octets.specs.Bytes.{padded, xorBytes}
 
@@ -94,9 +94,12 @@ pub sixteen : (l : List ℕ) → length l ≡ 16
     → getD l 0 0 ∷ getD l 1 0 ∷ getD l 2 0 ∷ getD l 3 0 ∷ getD l 4 0 ∷ getD l 5 0 ∷ getD l 6 0 ∷ getD l 7 0 ∷ getD l 8 0 ∷ getD l 9 0 ∷ getD l 10 0 ∷ getD l 11 0 ∷ getD l 12 0 ∷ getD l 13 0 ∷ getD l 14 0 ∷ getD l 15 0 ∷ [] ≡ l
 sixteen l e = tab-of 16 l e
 
+-- behind the first k of 16 stores at the start there is room for the next
+pub stored-room : (k : ℕ) (s t : List ℕ) → k < 16 → 16 ≤ length s → k < length (sets s 0 (tab k (at t)))
+stored-room k s t h room = lt-length-sets s 0 (tab k (at t)) (omega arith)
+
 -- 16 stores at the start are a copy
-pub stored-whole : (s t : List ℕ) → length t ≡ 16 → 16 ≤ length s
-    → sets s 0 (getD t 0 0 ∷ getD t 1 0 ∷ getD t 2 0 ∷ getD t 3 0 ∷ getD t 4 0 ∷ getD t 5 0 ∷ getD t 6 0 ∷ getD t 7 0 ∷ getD t 8 0 ∷ getD t 9 0 ∷ getD t 10 0 ∷ getD t 11 0 ∷ getD t 12 0 ∷ getD t 13 0 ∷ getD t 14 0 ∷ getD t 15 0 ∷ []) ≡ over t s
+pub stored-whole : (s t : List ℕ) → length t ≡ 16 → 16 ≤ length s → sets s 0 (tab 16 (at t)) ≡ over t s
 stored-whole s t e room =
     ap (sets s 0) (sixteen t e)
     ∙ sets-eq t s 0 (omega arith)
