@@ -13,8 +13,7 @@ export PAVILUKO_LIB
 sh tests/cipher/packages.sh gcc libc6-dev libssl-dev
 
 log=$(mktemp)
-sheet=$(mktemp)
-trap 'rm -f "$log" "$sheet"' EXIT
+trap 'rm -f "$log"' EXIT
 
 # Runs a command, whose output is shown only where it fails.
 quietly() {
@@ -23,8 +22,7 @@ quietly() {
 
 quietly cargo build --release --offline --locked --quiet
 
-# The sheet is written by two programs, which rt proves side by side.
-cat crates/bench_sheet/stdout crates/bench_recover/stdout >"$sheet"
+sheet=crates/bench_sheet/stdout
 "$rust/sheet" >"$log"
 if ! diff "$log" "$sheet" >&2; then
     echo "the model's answers to the bench sheet are not the library's" >&2

@@ -1,5 +1,4 @@
-//! The bench sheet's cases, answered by the model: a line a case, as the library's programs write them, `bench_sheet` and
-//! then `bench_recover`.
+//! The bench sheet's cases, answered by the model: a line a case, as the library's program `bench_sheet` writes them.
 
 use std::rc::Rc;
 

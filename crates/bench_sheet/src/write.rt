@@ -1,7 +1,5 @@
-// A case's line of the bench sheet: its name, and what the call answered: the store that it named and the bytes that it
+// What a line of the script shows: its name, and what the call answered: the store that it named and the bytes that it
 // put out, or the number on the display and the value beside it.
-//
-// The functions only write, which no contract can speak of: what the programs above wrote is compared with a stored file.
 use libc::STDOUT_FILENO;
 use protocol::Outcome;
 use protocol::Refusal;
@@ -11,48 +9,36 @@ pub fn text(s: &[u8]) {
     io::write_all(STDOUT_FILENO, s);
 }
 
-pub fn number(n: u64) {
+fn number(n: u64) {
     io::print_decimal(STDOUT_FILENO, n);
 }
 
-fn letter(x: u8) {
-    text(&[x]);
-}
-
 // A store of a lane's number: W, V or R.
-fn lane_store(name: u8, lane: u8, value: u64) {
-    letter(name);
-    text(b" of lane ");
+fn lane_store(name: &[u8], lane: u8, value: u64) {
+    text(name);
     number(lane as u64);
     text(b" is ");
     number(value);
 }
 
-// A store of E, S or N.
-fn plain_store(name: u8, value: u64) {
-    letter(name);
-    text(b" is ");
-    number(value);
-}
-
-// A store at a position.
-fn place_store(name: &[u8], position: u64) {
+// A store of E, S or N, or one at a position.
+fn plain_store(name: &[u8], value: u64) {
     text(name);
-    number(position);
+    number(value);
 }
 
 fn store(named: Store) {
     match named {
         Store::Nothing => text(b"no store"),
-        Store::W { lane, value } => lane_store(b'W', lane, value),
-        Store::V { lane, value } => lane_store(b'V', lane, value),
-        Store::R { lane, value } => lane_store(b'R', lane, value),
-        Store::E { value } => plain_store(b'E', value),
-        Store::S { value } => plain_store(b'S', value),
-        Store::N { value } => plain_store(b'N', value),
-        Store::Record { position } => place_store(b"record at ", position),
+        Store::W { lane, value } => lane_store(b"W of lane ", lane, value),
+        Store::V { lane, value } => lane_store(b"V of lane ", lane, value),
+        Store::R { lane, value } => lane_store(b"R of lane ", lane, value),
+        Store::E { value } => plain_store(b"E is ", value),
+        Store::S { value } => plain_store(b"S is ", value),
+        Store::N { value } => plain_store(b"N is ", value),
+        Store::Record { position } => plain_store(b"record at ", position),
         Store::File => text(b"checkpoint"),
-        Store::Delete { position } => place_store(b"delete below ", position),
+        Store::Delete { position } => plain_store(b"delete below ", position),
         Store::Empty => text(b"empty the log"),
     }
 }
@@ -84,36 +70,28 @@ fn refusal(why: Refusal) {
     }
 }
 
-// What a call answered, to the end of the line.
-fn answer(o: Outcome) {
+fn taken(named: Store, len: usize) {
+    text(b"taken, ");
+    store(named);
+    if 0 < len {
+        text(b", ");
+        number(len as u64);
+        text(b" bytes");
+    }
+}
+
+// The line of a call. A call without a name has none.
+pub fn answer(name: &[u8], o: Outcome) {
+    if name.len() == 0 {
+        return;
+    }
+    text(name);
     text(b": ");
     match o {
-        Outcome::Taken { store: named, len } => {
-            text(b"taken, ");
-            store(named);
-            if 0 < len {
-                text(b", ");
-                number(len as u64);
-                text(b" bytes");
-            }
-        }
+        Outcome::Taken { store: named, len } => taken(named, len),
         Outcome::Refused { why } => refusal(why),
     }
     text(b"\n");
-}
-
-// The line of a call.
-pub fn line(name: &[u8], o: Outcome) {
-    text(name);
-    answer(o);
-}
-
-// The line of a call of several.
-pub fn call(name: &[u8], k: u64, o: Outcome) {
-    text(name);
-    text(b", call ");
-    number(k);
-    answer(o);
 }
 
 // A line with a number.
@@ -140,7 +118,17 @@ pub fn coded(name: &[u8], x: u8) {
 }
 
 // A byte of several, a space before it.
-pub fn byte(x: u8) {
+fn byte(x: u8) {
     text(b" ");
     number(x as u64);
+}
+
+// A line with bytes in decimal.
+pub fn listed(name: &[u8], s: &[u8]) {
+    text(name);
+    text(b":");
+    for i in 0..s.len() {
+        byte(s[i]);
+    }
+    text(b"\n");
 }
