@@ -6,6 +6,7 @@ cd "$(dirname "$0")/.."
 
 work=$(sh tools/scratch.sh)
 trap 'wait; rm -rf "$work"' EXIT
+trap 'exit 1' INT TERM
 export TMPDIR="$work"
 declare -A started
 

@@ -23,9 +23,10 @@ command -v cc >/dev/null 2>&1 || sh tests/cipher/packages.sh gcc libc6-dev
 
 if [ -z "${PAVILUKO_LIB:-}" ] && outdated; then
     need rt 'install the Rattle kit'
-    echo 'building the proved library: every proof is checked, about ten minutes on a fresh machine'
+    echo 'building the proved library: every proof is checked, about five minutes on a fresh machine'
     scratch=$(sh tools/scratch.sh)
     trap 'rm -rf "$scratch"' EXIT
+    trap 'exit 1' INT TERM
     TMPDIR=$scratch rt staticlib paviluko
     rm -rf "$scratch"
     # Nothing newer than it from here on, even where rt found it up to date.
