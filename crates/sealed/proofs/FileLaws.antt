@@ -10,9 +10,9 @@ use native.Mathlib.Omega.{arith}
 use borrow.Author.Tests.{eq-eqb, ne-eqb, eqb-true, lt-ltb, le-ltb, not-true, not-false}
 use borrow.Rule.Slice.PartMut.{midOf}
 use lib.Dec.{leb, eqb}
-use lib.ListN.{length, getD, take, drop, length-append, length-drop, drop-of-length-le}
+use lib.ListN.{length, take, drop, length-append, length-drop, drop-of-length-le}
 use lib.Seq.{take-at, drop-at, length-take-le}
-use Rattle.octets.specs.Lists.{at, over}
+use Rattle.octets.specs.Lists.{at, tab, over}
 use Rattle.octets.specs.Bytes.{padded, sameBytes}
 use Rattle.octets.specs.Little.{little, littleBytes}
 use Rattle.octets.proofs.BoolLaws.{and-left}
@@ -33,7 +33,7 @@ use Rattle.table.proofs.TextLaws.{length-table}
 use Rattle.table.proofs.RoundTrip.{text-is-table, table-back}
 use Rattle.sealed.specs.Aead.{Aead, aesGcm, gcmBy}
 use Rattle.sealed.specs.Frame.{framed, unframed, trailerOf, isSome}
-use Rattle.sealed.specs.Checkpoint.{fileHead, fileNonce, fileBytes, fileAnswer, filePut, versionOf, sealOf, legalFile, openedTable, openFile, shownFile}
+use Rattle.sealed.specs.Checkpoint.{fileKind, fileHead, fileNonce, fileBytes, fileAnswer, filePut, versionOf, sealOf, legalFile, openedTable, openFile, shownFile}
 use Rattle.sealed.specs.declared.file.FileHead.the-variants as H
 use Rattle.sealed.specs.declared.file.FileRead.{FileRead}
 use Rattle.sealed.specs.declared.file.FilePut.the-variants as P
@@ -42,15 +42,14 @@ use Rattle.sealed.proofs.FrameTrip.{Grows, Opens, aes-grows, aes-opens,
 -- ---- head and nonce, byte after byte
 
 abbrev nonceLaid : List ℕ → List ℕ
-nonceLaid i = 2 ∷ 0 ∷ 0 ∷ 0 ∷ getD i 0 0 ∷ getD i 1 0 ∷ getD i 2 0 ∷ getD i 3 0 ∷ getD i 4 0 ∷ getD i 5 0 ∷ getD i 6 0 ∷ getD i 7 0 ∷ []
+nonceLaid i = fileKind ∷ 0 ∷ 0 ∷ 0 ∷ tab 8 (at i)
 
 pub nonce-laid : (seal : ℕ) {i : List ℕ} → i ≡ littleBytes 8 seal → nonceLaid i ≡ fileNonce seal
 unfolding littleBytes fileNonce
 nonce-laid seal e = ap nonceLaid e
 
 abbrev headLaid : List ℕ → List ℕ → List ℕ
-headLaid v i =
-    2 ∷ 0 ∷ 0 ∷ 0 ∷ getD v 0 0 ∷ getD v 1 0 ∷ getD v 2 0 ∷ getD v 3 0 ∷ getD v 4 0 ∷ getD v 5 0 ∷ getD v 6 0 ∷ getD v 7 0 ∷ getD i 0 0 ∷ getD i 1 0 ∷ getD i 2 0 ∷ getD i 3 0 ∷ getD i 4 0 ∷ getD i 5 0 ∷ getD i 6 0 ∷ getD i 7 0 ∷ []
+headLaid v i = fileKind ∷ 0 ∷ 0 ∷ 0 ∷ (tab 8 (at v) ++ tab 8 (at i))
 
 pub head-laid : (version seal : ℕ) {v i : List ℕ} → v ≡ littleBytes 8 version → i ≡ littleBytes 8 seal → headLaid v i ≡ fileHead version seal
 unfolding littleBytes fileHead
