@@ -30,8 +30,8 @@ sh tests/cipher/packages.sh gcc libc6-dev libssl-dev python3 python3-cryptograph
 
 rt fmt --check
 
-# As many checks at a time as there are processors: with more, each costs more processor time than the waiting spares. A check takes
-# 1 to 2.5 GB.
+# As many checks at a time as there are processors: more gained nothing by the clock, and cost processor time and memory. A check
+# takes 1 to 2.5 GB.
 jobs=$(nproc)
 room=$(awk '/^MemAvailable:/ { print int($2 / 2000000) }' /proc/meminfo)
 [ "$jobs" -le "$room" ] || jobs=$room

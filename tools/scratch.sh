@@ -1,7 +1,7 @@
 #!/bin/sh
-# Makes a folder for temporary files and prints its name; whoever asked for it removes it. It is in memory where there is room
-# enough for a few checks at a time: each makes some 3,500 files, a few hundred megabytes at the most, and removes them again, which
-# on a disk's file system took up to a third of the check's time. Anybody may pass through the folder, since rt runs programs as nobody.
+# Makes a folder for temporary files and prints its name; whoever asked for it removes it. It is in memory where there is
+# room for a few checks at a time: each makes some 3,500 files, over 100 MB, and removes them again, which on a disk took up
+# to a third of a small check's time. Anybody may pass through the folder, since rt runs programs as nobody.
 set -eu
 
 place=${TMPDIR:-/tmp}

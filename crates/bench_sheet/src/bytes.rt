@@ -75,16 +75,12 @@ fn text_len(k: u64) -> usize {
     8 + 8 * (k % 61) as usize
 }
 
-fn byte_of(n: u64) -> u8 {
-    (n % 256) as u8
-}
-
 pub fn texts(m: Command, text: &mut [u8]) {
     if m.word == WRITES {
         return writes(text);
     }
     if m.word == TEXT_BYTE {
-        return set(text, m.a as usize, byte_of(m.b));
+        return set(text, m.a as usize, script::byte_of(m.b));
     }
 }
 

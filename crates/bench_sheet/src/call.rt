@@ -1,4 +1,4 @@
-// The calls of the script: each on the collector that is there, its answer written behind the line's name. The collector
+// The calls of the script: each on the collector that is there, its answer written behind the command's name. The collector
 // that it hands back takes the other's place.
 use super::bytes;
 use super::made;
@@ -86,7 +86,7 @@ pub fn plain(c: Collector, x: Vault, s: &[u8], m: Command, text: &[u8], log: &[u
     let word = m.word;
     match word {
         LOAD => load(x, s, m),
-        ACCEPT => said(s, m, c.accept(text, made::lane_of(m.a), m.b)),
+        ACCEPT => said(s, m, c.accept(text, script::byte_of(m.a), m.b)),
         COMMIT => said(s, m, c.commit(log)),
         POINT => said(s, m, c.point(m.a)),
         TRUNCATE => said(s, m, c.truncate(m.a)),

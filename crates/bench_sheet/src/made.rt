@@ -1,6 +1,7 @@
 // What the cases start from: vault numbers and collectors.
 //
 // A collector in service is made from a loaded one: the phase is set, and everything else is as Load left it.
+use super::script;
 use super::script::Command;
 use super::words::COLD;
 use super::words::LISTED;
@@ -22,15 +23,11 @@ use protocol::Vault;
 
 const KEY: [u8; 16] = [7u8; 16];
 
-pub fn lane_of(n: u64) -> u8 {
-    (n % 256) as u8
-}
-
 // ---- vault numbers
 
 // The numbers behind a command that sets one of them, or all to zero.
 pub fn numbers(x: Vault, m: Command) -> Vault {
-    let lane = lane_of(m.a);
+    let lane = script::byte_of(m.a);
     let word = m.word;
     match word {
         NEW => vault::new_vault(),

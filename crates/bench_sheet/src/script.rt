@@ -74,6 +74,11 @@ fn value(s: &[u8]) -> u64 {
     n
 }
 
+// A number as a lane, a meter or a byte.
+pub fn byte_of(n: u64) -> u8 {
+    (n % 256) as u8
+}
+
 // A part of a slice, and the whole of it where there is no such part.
 pub fn part(s: &[u8], from: usize, to: usize) -> &[u8] {
     if to < from {

@@ -1,5 +1,5 @@
-// What else a line shows: a byte that was put out, a reading, a point, and what the marked cases M2 and M3 ask for.
-use super::made;
+// What else a command shows: a byte that was put out, a reading, a point, and what the marked cases M2 and M3 ask for.
+use super::script;
 use super::script::Command;
 use super::words::COUNTS;
 use super::words::LANE;
@@ -36,8 +36,8 @@ fn lane(c: Collector, meter: u8) -> u64 {
 pub fn collector(c: Collector, name: &[u8], m: Command) {
     let word = m.word;
     match word {
-        NUMBER => write::counted(name, number(c, made::lane_of(m.a))),
-        LANE => write::counted(name, lane(c, made::lane_of(m.a))),
+        NUMBER => write::counted(name, number(c, script::byte_of(m.a))),
+        LANE => write::counted(name, lane(c, script::byte_of(m.a))),
         COUNTS => write::counted(name, counts(c, m.a)),
         _ => (),
     }
@@ -57,8 +57,8 @@ pub fn other(name: &[u8], m: Command, out: &[u8]) {
     let word = m.word;
     match word {
         PUT => write::counted(name, octets::byte_at(out, m.a as usize) as u64),
-        SBOX => write::coded(name, sbox(made::lane_of(m.a))),
-        NONCE => nonce(name, made::lane_of(m.a), m.b),
+        SBOX => write::coded(name, sbox(script::byte_of(m.a))),
+        NONCE => nonce(name, script::byte_of(m.a), m.b),
         UNKNOWN => write::text(b"a word that is none of the script's\n"),
         _ => (),
     }

@@ -1,4 +1,4 @@
-// What a line of the script shows: its name, and what the call answered: the store that it named and the bytes that it
+// What a command of the script shows: its name, and what the call answered: the store that it named and the bytes that it
 // put out, or the number on the display and the value beside it.
 use libc::STDOUT_FILENO;
 use protocol::Outcome;
