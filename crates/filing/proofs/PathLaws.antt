@@ -12,7 +12,7 @@ use Rattle.ghash.specs.Multiples.{productBy}
 use Rattle.gcm.specs.Answers.{putOver}
 use Rattle.gcm.specs.Key.{prepared}
 use Rattle.gcm.specs.declared.Key.{Key}
-use Rattle.reading.specs.Transaction.{meters}
+use Rattle.transaction.specs.Transaction.{meters}
 use Rattle.table.specs.declared.Table.{Table}
 use Rattle.table.specs.TableText.{tableText}
 use Rattle.table.proofs.TextLaws.{length-table}

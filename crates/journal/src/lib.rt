@@ -11,7 +11,7 @@ use protocol::Held;
 use protocol::Journal;
 use protocol::Point;
 use protocol::Points;
-use reading::MAX_TEXT;
+use transaction::MAX_TEXT;
 
 pub mod marks;
 pub mod points;

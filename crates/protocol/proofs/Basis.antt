@@ -9,8 +9,8 @@ use mathlib.Core.Option.{Option, some}
 use native.Mathlib.Omega.{arith}
 use lib.ListN.{length}
 use Rattle.octets.specs.Lists.{at}
-use Rattle.reading.specs.Transaction.{legal}
-use Rattle.reading.proofs.TransactionLaws.{length-bounds}
+use Rattle.transaction.specs.Transaction.{legal}
+use Rattle.transaction.proofs.TransactionLaws.{length-bounds}
 use Rattle.table.specs.Table.{lanes, entered}
 use Rattle.table.specs.Written.{written}
 use Rattle.table.specs.Canonical.{CanonicalTable}

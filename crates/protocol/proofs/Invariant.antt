@@ -26,7 +26,7 @@ use mathlib.Core.Option.{Option, none, some}
 use mathlib.Core.List.{List, [], _∷_, _++_, map, List·Memᴰ}
 use lib.ListN.{length}
 use Rattle.octets.specs.Lists.{at}
-use Rattle.reading.specs.Transaction.{legal}
+use Rattle.transaction.specs.Transaction.{legal}
 use Rattle.table.specs.Table.{lanes, emptyTable}
 use Rattle.sealed.specs.Record.{Opened}
 use Rattle.sealed.specs.Checkpoint.{OpenedFile}

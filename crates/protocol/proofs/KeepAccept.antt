@@ -13,7 +13,7 @@ use lib.Seq.{getD-set-same, take-append-seam}
 use borrow.Author.Tests.{eqb-true, ltb-false, not-false}
 use Rattle.octets.specs.Lists.{at}
 use Rattle.octets.proofs.BoolLaws.{and-left, and-right, or-left, or-right}
-use Rattle.reading.specs.Transaction.{maxText, legal}
+use Rattle.transaction.specs.Transaction.{maxText, legal}
 use Rattle.table.specs.Table.{lanes}
 use Rattle.sealed.specs.Aead.{aesGcm}
 use Rattle.sealed.specs.Record.{Opened, recordBytes, openRecord}

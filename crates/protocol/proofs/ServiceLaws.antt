@@ -14,8 +14,8 @@ use lib.Seq.{take-append-seam, take-suc-set, length-take-le, getD-set-same}
 use borrow.Author.Tests.{le-leb, le-ltb, lt-ltb, eq-eqb}
 use Rattle.octets.specs.Lists.{at}
 use Rattle.octets.proofs.BoolLaws.{and-false}
-use Rattle.reading.specs.Transaction.{maxText, legal}
-use Rattle.reading.proofs.TransactionLaws.{length-bounds}
+use Rattle.transaction.specs.Transaction.{maxText, legal}
+use Rattle.transaction.proofs.TransactionLaws.{length-bounds}
 use Rattle.table.specs.Table.{lanes}
 use Rattle.table.proofs.OrderLaws.{clash}
 use Rattle.sealed.specs.Aead.{aesGcm}

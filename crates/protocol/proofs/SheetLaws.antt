@@ -17,10 +17,10 @@ use Rattle.octets.specs.Little.{little, littleBytes}
 use Rattle.octets.specs.Bytes.{padded}
 use Rattle.aes_key.specs.Gf.{xTimes, timesBits, _•_, squares, inverse}
 use Rattle.aes_key.specs.Sbox.{bit, affineBit, affineBits, affine, sbox}
-use Rattle.reading.specs.Every.{allBelow}
-use Rattle.reading.proofs.EveryLaws.{and-true, all-at}
-use Rattle.reading.specs.Signed.{signedOf}
-use Rattle.reading.specs.Transaction.{writeCount, sized, stampOf, writeIn, writeAt, lowest, legalWrite, legal}
+use Rattle.transaction.specs.Every.{allBelow}
+use Rattle.transaction.proofs.EveryLaws.{and-true, all-at}
+use Rattle.transaction.specs.Signed.{signedOf}
+use Rattle.transaction.specs.Transaction.{writeCount, sized, stampOf, writeIn, writeAt, lowest, legalWrite, legal}
 use Rattle.table.specs.Table.{emptyTable, entryOf, entryAt, put, putTo, entered}
 use Rattle.table.proofs.EnteredLaws.{empty-canonical}
 use Rattle.table.specs.Order.{lex, later, latest}

@@ -10,7 +10,7 @@ use native.Mathlib.Omega.{arith}
 use lib.Dec.{leb, eqb}
 use borrow.Author.Tests.{leb-false, not-false}
 use Rattle.octets.specs.Lists.{at}
-use Rattle.reading.specs.Transaction.{legal}
+use Rattle.transaction.specs.Transaction.{legal}
 use Rattle.table.specs.declared.Table.{Table}
 use Rattle.table.specs.Table.{lanes}
 use Rattle.table.proofs.OrderLaws.{clash}

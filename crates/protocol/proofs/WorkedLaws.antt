@@ -17,9 +17,9 @@ use Rattle.octets.specs.Lists.{at}
 use Rattle.octets.specs.Bytes.{padded}
 use Rattle.octets.specs.Little.{little}
 use Rattle.octets.proofs.BoolLaws.{and-left, and-right}
-use Rattle.reading.specs.Every.{allBelow}
-use Rattle.reading.specs.Signed.{signedOf}
-use Rattle.reading.specs.Transaction.{legal, sized, writeCount, stampOf, writeAt, writeIn, lowest, legalWrite}
+use Rattle.transaction.specs.Every.{allBelow}
+use Rattle.transaction.specs.Signed.{signedOf}
+use Rattle.transaction.specs.Transaction.{legal, sized, writeCount, stampOf, writeAt, writeIn, lowest, legalWrite}
 use Rattle.table.specs.declared.Table.{Table}
 use Rattle.table.specs.Order.{latest}
 use Rattle.table.specs.Table.{noEntry, emptyTable, entryOf, entryAt, put, putTo, entered}

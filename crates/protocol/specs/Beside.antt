@@ -9,7 +9,7 @@ use mathlib.Core.Option.{some}
 use lib.Dec.{leb, ltb, eqb}
 use lib.ListN.{length}
 use Rattle.octets.specs.Lists.{at}
-use Rattle.reading.specs.Transaction.{maxText, legal}
+use Rattle.transaction.specs.Transaction.{maxText, legal}
 use Rattle.table.specs.Table.{lanes, entered}
 use Rattle.sealed.specs.Aead.{aesGcm}
 use Rattle.sealed.specs.Frame.{frameLen}

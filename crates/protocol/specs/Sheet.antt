@@ -8,7 +8,7 @@ use lib.ListN.{length, getD, replicate}
 use Rattle.octets.specs.Lists.{at}
 use Rattle.octets.specs.Little.{littleBytes}
 use Rattle.aes_key.specs.Sbox.{sbox}
-use Rattle.reading.specs.Transaction.{stampLen, maxText}
+use Rattle.transaction.specs.Transaction.{stampLen, maxText}
 use Rattle.table.specs.declared.Table.{Table}
 use Rattle.table.specs.declared.Entry.{Entry}
 use Rattle.table.specs.Table.{noEntry, emptyTable, entered}

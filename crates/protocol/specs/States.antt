@@ -5,7 +5,7 @@ use mathlib.Core.Bool.{Bool, true, false, _&&_}
 use mathlib.Core.List.{List}
 use lib.Dec.{leb}
 use lib.ListN.{take, replicate}
-use Rattle.reading.specs.Transaction.{maxText}
+use Rattle.transaction.specs.Transaction.{maxText}
 use Rattle.table.specs.Table.{lanes}
 use Rattle.protocol.specs.Vaults.{vaultOk}
 use Rattle.protocol.specs.declared.Vault.{Vault}

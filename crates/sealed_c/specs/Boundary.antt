@@ -8,7 +8,7 @@ use mathlib.Core.List.{List}
 use lib.ListN.{length, take, drop}
 use Rattle.octets.specs.Lists.{over}
 use Rattle.gcm.specs.Answers.{putOver}
-use Rattle.reading.specs.Transaction.{maxText, legal}
+use Rattle.transaction.specs.Transaction.{maxText, legal}
 use Rattle.table.specs.declared.Table.{Table}
 use Rattle.table.specs.Table.{entered}
 use Rattle.table.specs.TableText.{tableText, isTable, tableFrom}

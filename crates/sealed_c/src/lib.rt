@@ -229,7 +229,7 @@ pub extern "C" fn sealed_enter(text: &mut [u8], s: &[u8], lane: u8, number: u64)
     if !read.legal {
         return 4;
     }
-    if !reading::legal(s) {
+    if !transaction::legal(s) {
         return 4;
     }
     let t = table::enter(read.table, s, lane, number);
@@ -249,11 +249,11 @@ pub extern "C" fn sealed_enter_each(text: &mut [u8], s: &[u8], lane: u8, number:
         return 4;
     }
     let mut t = read.table;
-    let n = s.len() / reading::MAX_TEXT;
+    let n = s.len() / transaction::MAX_TEXT;
     let mut k: usize = 0;
     while k < n {
-        let at = reading::MAX_TEXT * k;
-        let e = at + reading::MAX_TEXT;
+        let at = transaction::MAX_TEXT * k;
+        let e = at + transaction::MAX_TEXT;
         let next = table::enter(t, &s[at..e], lane, number);
         t = next;
         k += 1;
