@@ -19,7 +19,7 @@ use Rattle.protocol.specs.declared.Due.{Due}
 use Rattle.protocol.specs.declared.Due.the-variants as D
 use Rattle.protocol.specs.declared.Refusal.the-variants as R
 use Rattle.protocol.specs.declared.Answer.{Answer}
-use Rattle.handed.specs.Parts.{validBy, refusedWith}
+use Rattle.state.specs.Parts.{validBy, refusedWith}
 use Rattle.filing.specs.Steps.{sealStep, fileStep, versionStep}
 use Rattle.checkpointing.specs.declared.Part.{Part}
 use Rattle.checkpointing.specs.declared.Part.the-variants as P

@@ -48,7 +48,7 @@ fn first_call(c: State) -> Answer
 {
     let x = c.vault;
     if (COUNTER_MAX <= x.s) | (COUNTER_MAX <= x.n) {
-        return handed::refused(c, Refusal::Spent);
+        return state::refused(c, Refusal::Spent);
     }
     filing::seal_step(c, Due::File)
 }
@@ -59,7 +59,7 @@ fn last_call(c: State) -> Answer
 {
     let x = c.vault;
     if COUNTER_MAX <= x.s {
-        return handed::refused(c, Refusal::Condition);
+        return state::refused(c, Refusal::Condition);
     }
     let p = c.points;
     let points = journal::points::covered_points(p);
@@ -78,16 +78,16 @@ pub fn checkpoint(c: State, out: &mut [u8]) -> Answer
     let x = c.vault;
     let phase = c.phase;
     let due = c.due;
-    let fine = handed::valid(x, c.journal.count, c.points.count);
-    let on = handed::serving(phase);
+    let fine = state::valid(x, c.journal.count, c.points.count);
+    let on = state::serving(phase);
     if !(fine & on) {
-        return handed::refused(c, Refusal::Condition);
+        return state::refused(c, Refusal::Condition);
     }
     let part = part_of(due);
     match part {
         Part::Seal => first_call(c),
         Part::File => filing::file_step(c, Due::Version, out),
         Part::Version => last_call(c),
-        Part::None => handed::refused(c, Refusal::Condition),
+        Part::None => state::refused(c, Refusal::Condition),
     }
 }

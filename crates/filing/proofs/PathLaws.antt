@@ -29,7 +29,7 @@ use Rattle.protocol.specs.declared.State.{State}
 use Rattle.protocol.specs.declared.Due.{Due}
 use Rattle.protocol.specs.declared.Store.the-variants as S
 use Rattle.protocol.specs.declared.Refusal.the-variants as R
-use Rattle.handed.specs.Parts.{refusedWith, takenWith}
+use Rattle.state.specs.Parts.{refusedWith, takenWith}
 use Rattle.filing.specs.Steps.{sealStep, fileStep, versionStep}
 
 -- ---- a table's file

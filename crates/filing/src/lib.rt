@@ -36,11 +36,11 @@ pub fn seal_step(c: State, next: Due) -> Answer
     let x = c.vault;
     let n = x.n;
     if COUNTER_MAX <= n {
-        return handed::refused(c, Refusal::Condition);
+        return state::refused(c, Refusal::Condition);
     }
     let value = n + 1;
     let raised = vault::set_n(x, value);
-    handed::stored(c, raised, next, Store::N { value }, 0)
+    state::stored(c, raised, next, Store::N { value }, 0)
 }
 
 // Puts the file out, with version S + 1 and N as its seal number. It refuses an S at the maximum (1), and an output
@@ -52,17 +52,17 @@ pub fn file_step(c: State, next: Due, out: &mut [u8]) -> Answer
     let x = c.vault;
     let s = x.s;
     if COUNTER_MAX <= s {
-        return handed::refused(c, Refusal::Condition);
+        return state::refused(c, Refusal::Condition);
     }
     if out.len() < FILE_LEN {
-        return handed::refused(c, Refusal::Length { right: FILE_LEN });
+        return state::refused(c, Refusal::Length { right: FILE_LEN });
     }
     let key = c.key;
     let t = c.table;
     let version = s + 1;
     let seal = x.n;
     put_table(key, version, seal, t, out);
-    handed::stored(c, x, next, Store::File, FILE_LEN)
+    state::stored(c, x, next, Store::File, FILE_LEN)
 }
 
 // Names S + 1. It refuses an S at the maximum (1).
@@ -72,9 +72,9 @@ pub fn version_step(c: State, next: Due) -> Answer
     let x = c.vault;
     let s = x.s;
     if COUNTER_MAX <= s {
-        return handed::refused(c, Refusal::Condition);
+        return state::refused(c, Refusal::Condition);
     }
     let value = s + 1;
     let raised = vault::set_s(x, value);
-    handed::stored(c, raised, next, Store::S { value }, 0)
+    state::stored(c, raised, next, Store::S { value }, 0)
 }

@@ -59,12 +59,12 @@ pub fn load(x: Vault, key: &[u8]) -> Answer
     ensures { λ r. ⌜ shownAs r [] ≡ load x (now (key .entry)) ⌝ }
 {
     if !vault::vault_ok(x) {
-        return handed::refused(blank(), Refusal::Numbers);
+        return state::refused(blank(), Refusal::Numbers);
     }
     if key.len() != KEY_LEN {
-        return handed::refused(blank(), Refusal::Length { right: KEY_LEN });
+        return state::refused(blank(), Refusal::Length { right: KEY_LEN });
     }
     let bytes = key_of(key);
     let state = loaded(x, bytes);
-    handed::taken(state, Store::Nothing, 0)
+    state::taken(state, Store::Nothing, 0)
 }

@@ -17,7 +17,7 @@ use Rattle.protocol.specs.declared.Refusal.the-variants as R
 use Rattle.protocol.specs.declared.Answer.{Answer}
 use Rattle.journal.specs.Beyond.{pointsIf}
 use Rattle.journal.proofs.BeyondLaws.{points-room}
-use Rattle.handed.specs.Parts.{readyBy, refusedWith, takenWith}
+use Rattle.state.specs.Parts.{readyBy, refusedWith, takenWith}
 
 -- the test over the parts of a state
 abbrev pub readyParts : State → Bool

@@ -20,18 +20,18 @@ pub fn point(c: State, position: u64) -> Answer
     let j = c.journal;
     let p = c.points;
     let count = p.count;
-    if !handed::ready(x, phase, due, j.count, count) {
-        return handed::refused(c, Refusal::Condition);
+    if !state::ready(x, phase, due, j.count, count) {
+        return state::refused(c, Refusal::Condition);
     }
     let low = p.any & (position <= p.newest);
     if low {
-        return handed::refused(c, Refusal::Position);
+        return state::refused(c, Refusal::Position);
     }
     if journal::POINTS <= count {
-        return handed::refused(c, Refusal::Full);
+        return state::refused(c, Refusal::Full);
     }
     if journal::marks::unseen_below(j, x, position) {
-        return handed::refused(c, Refusal::Unseen);
+        return state::refused(c, Refusal::Unseen);
     }
     let counts = journal::marks::counts_at(x, j, position);
     let from = journal::marks::journal_from(j, position);
@@ -44,5 +44,5 @@ pub fn point(c: State, position: u64) -> Answer
     let mut next = c;
     next.journal = from;
     next.points = more;
-    handed::taken(next, Store::Nothing, 0)
+    state::taken(next, Store::Nothing, 0)
 }

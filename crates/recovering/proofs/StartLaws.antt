@@ -36,7 +36,7 @@ use Rattle.protocol.specs.declared.Due.the-variants as D
 use Rattle.protocol.specs.declared.Store.the-variants as S
 use Rattle.protocol.specs.declared.Refusal.{Refusal}
 use Rattle.protocol.specs.declared.Refusal.the-variants as R
-use Rattle.handed.specs.Parts.{validBy, refusedWith, takenWith}
+use Rattle.state.specs.Parts.{validBy, refusedWith, takenWith}
 use Rattle.replay.specs.Rules.{readOf}
 use Rattle.replay.specs.declared.LogEnd.the-variants as E
 use Rattle.replay.specs.declared.LogRead.{LogRead}

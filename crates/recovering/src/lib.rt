@@ -37,18 +37,18 @@ pub fn recover(c: State, checkpoint: &[u8], log: &[u8], out: &mut [u8]) -> Answe
     let x = c.vault;
     let phase = c.phase;
     let due = c.due;
-    let fine = handed::valid(x, c.journal.count, c.points.count);
+    let fine = state::valid(x, c.journal.count, c.points.count);
     match phase {
         Phase::Cold => {
-            let free = handed::is_nothing(due);
+            let free = state::is_nothing(due);
             if !(fine & free) {
-                return handed::refused(c, Refusal::Condition);
+                return state::refused(c, Refusal::Condition);
             }
             if LOG_MAX < log.len() {
-                return handed::refused(c, Refusal::Length { right: LOG_MAX });
+                return state::refused(c, Refusal::Length { right: LOG_MAX });
             }
             if start::spent(x) {
-                return handed::refused(c, Refusal::Spent);
+                return state::refused(c, Refusal::Spent);
             }
             let key = c.key;
             let got = start::read(key, x, checkpoint, log);
@@ -78,22 +78,22 @@ pub fn recover(c: State, checkpoint: &[u8], log: &[u8], out: &mut [u8]) -> Answe
                     };
                     Answer { state, outcome }
                 }
-                LogEnd::Stopped { why } => handed::refused(c, why),
+                LogEnd::Stopped { why } => state::refused(c, why),
             }
         }
         Phase::Recovering => {
             if !fine {
-                return handed::refused(c, Refusal::Condition);
+                return state::refused(c, Refusal::Condition);
             }
             let part = go_on::part_of(due);
             match part {
                 Part::File { second } => {
                     let s = x.s;
                     if COUNTER_MAX <= s {
-                        return handed::refused(c, Refusal::Condition);
+                        return state::refused(c, Refusal::Condition);
                     }
                     if out.len() < FILE_LEN {
-                        return handed::refused(c, Refusal::Length { right: FILE_LEN });
+                        return state::refused(c, Refusal::Length { right: FILE_LEN });
                     }
                     let key = c.key;
                     let t = c.table;
@@ -165,6 +165,6 @@ pub fn recover(c: State, checkpoint: &[u8], log: &[u8], out: &mut [u8]) -> Answe
                 }
             }
         }
-        Phase::Serving => handed::refused(c, Refusal::Condition),
+        Phase::Serving => state::refused(c, Refusal::Condition),
     }
 }

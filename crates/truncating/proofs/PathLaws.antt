@@ -24,7 +24,7 @@ use Rattle.protocol.specs.declared.Refusal.the-variants as R
 use Rattle.protocol.specs.declared.Answer.{Answer}
 use Rattle.journal.specs.Beyond.{shownPoint}
 use Rattle.journal.specs.declared.points.PointFound.{PointFound}
-use Rattle.handed.specs.Parts.{validBy, refusedWith, takenWith}
+use Rattle.state.specs.Parts.{validBy, refusedWith, takenWith}
 use Rattle.truncating.specs.Parts.{partOf, laneAnswer, deleteAnswer}
 use Rattle.truncating.specs.declared.Part.{Part}
 use Rattle.truncating.specs.declared.Part.the-variants as P

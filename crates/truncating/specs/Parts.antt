@@ -11,7 +11,7 @@ use Rattle.protocol.specs.declared.Due.{Due}
 use Rattle.protocol.specs.declared.Due.the-variants as D
 use Rattle.protocol.specs.declared.Store.the-variants as S
 use Rattle.protocol.specs.declared.Answer.{Answer}
-use Rattle.handed.specs.Parts.{takenWith}
+use Rattle.state.specs.Parts.{takenWith}
 use Rattle.truncating.specs.declared.Part.{Part}
 use Rattle.truncating.specs.declared.Part.the-variants as P
 

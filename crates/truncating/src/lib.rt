@@ -68,7 +68,7 @@ fn lane_stored(c: State, position: u64, lane: u8, q: Point) -> Answer
     let value = vault::lane_at(counts, lane);
     let raised = vault::set_r(x, lane, value);
     let due = after_r(lane, position);
-    handed::stored(c, raised, due, Store::R { lane, value }, 0)
+    state::stored(c, raised, due, Store::R { lane, value }, 0)
 }
 
 // The point at a position and the older ones are dropped, and the deletion of the records below it is named.
@@ -93,7 +93,7 @@ fn deleted(c: State, position: u64) -> Answer
         held,
         key,
     };
-    handed::taken(state, Store::Delete { position }, 0)
+    state::taken(state, Store::Delete { position }, 0)
 }
 
 // Truncate: a position. It refuses a collector that is not in service, that has another store due, or that is
@@ -105,11 +105,11 @@ pub fn truncate(c: State, position: u64) -> Answer
     let phase = c.phase;
     let due = c.due;
     let p = c.points;
-    let fine = handed::valid(x, c.journal.count, p.count);
-    let on = handed::serving(phase);
+    let fine = state::valid(x, c.journal.count, p.count);
+    let on = state::serving(phase);
     let good = fine & on;
     if !good {
-        return handed::refused(c, Refusal::Condition);
+        return state::refused(c, Refusal::Condition);
     }
     let part = part_of(due);
     let read = journal::points::find_point(p, position);
@@ -119,23 +119,23 @@ pub fn truncate(c: State, position: u64) -> Answer
         Part::First => {
             let bare = !found | !q.covered;
             if bare {
-                return handed::refused(c, Refusal::Point);
+                return state::refused(c, Refusal::Point);
             }
             lane_stored(c, position, 0, q)
         }
         Part::R { lane, position: at } => {
             let off = (at != position) | !found | (LANES <= lane);
             if off {
-                return handed::refused(c, Refusal::Condition);
+                return state::refused(c, Refusal::Condition);
             }
             lane_stored(c, position, lane, q)
         }
         Part::Delete { position: at } => {
             if at != position {
-                return handed::refused(c, Refusal::Condition);
+                return state::refused(c, Refusal::Condition);
             }
             deleted(c, position)
         }
-        Part::Other => handed::refused(c, Refusal::Condition),
+        Part::Other => state::refused(c, Refusal::Condition),
     }
 }

@@ -5,7 +5,7 @@
 ghost use mathlib.Core.Path.{_≡_};
 ghost use Rattle.protocol.specs.States.{serving, isNothing, withVault};
 ghost use Rattle.protocol.specs.Accept.{isRecord};
-ghost use Rattle.handed.specs.Parts.{validBy, readyBy, refusedWith, takenWith};
+ghost use Rattle.state.specs.Parts.{validBy, readyBy, refusedWith, takenWith};
 use journal::LISTED;
 use journal::POINTS;
 use protocol::Answer;

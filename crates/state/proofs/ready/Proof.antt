@@ -1,7 +1,7 @@
--- `handed::ready` meets its contract: the tests are the definition's. Assumes nothing.
+-- `state::ready` meets its contract: the tests are the definition's. Assumes nothing.
 use borrow.Author.Needs.{needs}
-use Rattle.handed.proofs.ready.Statement.{statement}
-use Rattle.handed.proofs.ready.Tie as tie
+use Rattle.state.proofs.ready.Statement.{statement}
+use Rattle.state.proofs.ready.Tie as tie
 
 returns : tie.Need-returns
 returns c = rw (c .before .before .valid .ensures, c .before .serving .ensures, c .is-nothing .ensures)

@@ -1,7 +1,7 @@
--- `handed::valid` meets its contract: the tests are the definition's. Assumes nothing.
+-- `state::valid` meets its contract: the tests are the definition's. Assumes nothing.
 use borrow.Author.Needs.{needs}
-use Rattle.handed.proofs.valid.Statement.{statement}
-use Rattle.handed.proofs.valid.Tie as tie
+use Rattle.state.proofs.valid.Statement.{statement}
+use Rattle.state.proofs.valid.Tie as tie
 
 returns : tie.Need-returns
 returns c = rw (c .vault-ok .ensures)
