@@ -10,10 +10,10 @@ use borrow.Author.Tests.{not-true, not-false}
 use Rattle.gcm.specs.Answers.{putOver}
 use Rattle.protocol.specs.Said.{Answered}
 use Rattle.protocol.specs.declared.State.{State}
-use Rattle.flat.specs.Flat.{known, thaw}
-use Rattle.flat.specs.Replies.{replyOf, notAState, replyTo, putTo}
-use Rattle.flat.specs.declared.FlatState.{FlatState}
-use Rattle.flat.specs.declared.Reply.{Reply}
+use Rattle.boundary.specs.Flat.{known, thaw}
+use Rattle.boundary.specs.Replies.{replyOf, notAState, replyTo, putTo}
+use Rattle.boundary.specs.declared.FlatState.{FlatState}
+use Rattle.boundary.specs.declared.Reply.{Reply}
 
 module _ (s : FlatState) {f : Bool} (k : f ≡ known s) where
   -- not known

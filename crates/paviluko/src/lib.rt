@@ -15,11 +15,11 @@ ghost use Rattle.protocol.specs.Point.{point};
 ghost use Rattle.protocol.specs.Checkpoint.{checkpoint};
 ghost use Rattle.protocol.specs.Truncate.{truncate};
 ghost use Rattle.protocol.specs.Recover.{recover};
-ghost use Rattle.flat.specs.Flat.{thaw};
-ghost use Rattle.flat.specs.Replies.{replyOf, replyTo, putTo};
-use flat::DueNumbers;
-use flat::FlatState;
-use flat::Reply;
+ghost use Rattle.boundary.specs.Flat.{thaw};
+ghost use Rattle.boundary.specs.Replies.{replyOf, replyTo, putTo};
+use boundary::DueNumbers;
+use boundary::FlatState;
+use boundary::Reply;
 use protocol::Vault;
 use table::Entry;
 
@@ -32,7 +32,7 @@ pub extern "C" fn paviluko_load(x: Vault, key: &[u8]) -> Reply
     ensures { λ r. ⌜ r ≡ replyOf (load x (now (key .entry))) ⌝ }
 {
     let a = loading::load(x, key);
-    flat::reply_of(a)
+    boundary::reply_of(a)
 }
 
 // Accept: a transaction is held under the next number of its lane. Names the store of W. Refuses with 1 and 4 to 8.
@@ -45,13 +45,13 @@ pub extern "C" fn paviluko_accept(
 ) -> Reply
     ensures { λ r. ⌜ r ≡ replyTo s (accept (thaw s) (now (transaction .entry)) lane position) ⌝ }
 {
-    let fine = flat::known(s.due, s.phase);
+    let fine = boundary::known(s.due, s.phase);
     if !fine {
-        return flat::not_a_state(s);
+        return boundary::not_a_state(s);
     }
-    let state = flat::thaw(s);
+    let state = boundary::thaw(s);
     let a = accepting::accept(state, transaction, lane, position);
-    flat::reply_of(a)
+    boundary::reply_of(a)
 }
 
 // Seal: the record of the transaction held, at the start of out. Names the record's store. Refuses with 1 and 3.
@@ -60,13 +60,13 @@ pub extern "C" fn paviluko_seal(s: FlatState, out: &mut [u8]) -> Reply
     ensures answer { λ r. ⌜ r ≡ replyTo s (seal (thaw s) (length (now (out .entry)))) ⌝ }
     ensures bytes { λ r. ⌜ now (out .exit) ≡ putOver (putTo s (seal (thaw s) (length (now (out .entry))))) (now (out .entry)) ⌝ }
 {
-    let fine = flat::known(s.due, s.phase);
+    let fine = boundary::known(s.due, s.phase);
     if !fine {
-        return flat::not_a_state(s);
+        return boundary::not_a_state(s);
     }
-    let state = flat::thaw(s);
+    let state = boundary::thaw(s);
     let a = accepting::seal(state, out);
-    flat::reply_of(a)
+    boundary::reply_of(a)
 }
 
 // Commit: the bytes of a record, from the card, make its transaction visible. Names the store of V. Refuses with 1, 9, 10
@@ -75,13 +75,13 @@ pub extern "C" fn paviluko_seal(s: FlatState, out: &mut [u8]) -> Reply
 pub extern "C" fn paviluko_commit(s: FlatState, bytes: &[u8]) -> Reply
     ensures { λ r. ⌜ r ≡ replyTo s (commit (thaw s) (now (bytes .entry))) ⌝ }
 {
-    let fine = flat::known(s.due, s.phase);
+    let fine = boundary::known(s.due, s.phase);
     if !fine {
-        return flat::not_a_state(s);
+        return boundary::not_a_state(s);
     }
-    let state = flat::thaw(s);
+    let state = boundary::thaw(s);
     let a = committing::commit(state, bytes);
-    flat::reply_of(a)
+    boundary::reply_of(a)
 }
 
 // Point: a position below which every accepted record is visible. Names no store. Refuses with 1, 6, 7 and 15.
@@ -89,13 +89,13 @@ pub extern "C" fn paviluko_commit(s: FlatState, bytes: &[u8]) -> Reply
 pub extern "C" fn paviluko_point(s: FlatState, position: u64) -> Reply
     ensures { λ r. ⌜ r ≡ replyTo s (point (thaw s) position) ⌝ }
 {
-    let fine = flat::known(s.due, s.phase);
+    let fine = boundary::known(s.due, s.phase);
     if !fine {
-        return flat::not_a_state(s);
+        return boundary::not_a_state(s);
     }
-    let state = flat::thaw(s);
+    let state = boundary::thaw(s);
     let a = pointing::point(state, position);
-    flat::reply_of(a)
+    boundary::reply_of(a)
 }
 
 // Checkpoint, in three calls: the store of N, the file at the start of out, the store of S. Refuses with 1, 3 and 8.
@@ -104,13 +104,13 @@ pub extern "C" fn paviluko_checkpoint(s: FlatState, out: &mut [u8]) -> Reply
     ensures answer { λ r. ⌜ r ≡ replyTo s (checkpoint (thaw s) (length (now (out .entry)))) ⌝ }
     ensures bytes { λ r. ⌜ now (out .exit) ≡ putOver (putTo s (checkpoint (thaw s) (length (now (out .entry))))) (now (out .entry)) ⌝ }
 {
-    let fine = flat::known(s.due, s.phase);
+    let fine = boundary::known(s.due, s.phase);
     if !fine {
-        return flat::not_a_state(s);
+        return boundary::not_a_state(s);
     }
-    let state = flat::thaw(s);
+    let state = boundary::thaw(s);
     let a = checkpointing::checkpoint(state, out);
-    flat::reply_of(a)
+    boundary::reply_of(a)
 }
 
 // Truncate at a covered point, in nine calls: the stores of R of lanes 0 to 7, and the deletion. Refuses with 1 and 14.
@@ -118,13 +118,13 @@ pub extern "C" fn paviluko_checkpoint(s: FlatState, out: &mut [u8]) -> Reply
 pub extern "C" fn paviluko_truncate(s: FlatState, position: u64) -> Reply
     ensures { λ r. ⌜ r ≡ replyTo s (truncate (thaw s) position) ⌝ }
 {
-    let fine = flat::known(s.due, s.phase);
+    let fine = boundary::known(s.due, s.phase);
     if !fine {
-        return flat::not_a_state(s);
+        return boundary::not_a_state(s);
     }
-    let state = flat::thaw(s);
+    let state = boundary::thaw(s);
     let a = truncating::truncate(state, position);
-    flat::reply_of(a)
+    boundary::reply_of(a)
 }
 
 // Recover, in 15 or 24 calls: the first reads checkpoint and log, and names the first store; the others name the other
@@ -139,13 +139,13 @@ pub extern "C" fn paviluko_recover(
     ensures answer { λ r. ⌜ r ≡ replyTo s (recover (thaw s) (now (checkpoint .entry)) (now (log .entry)) (length (now (out .entry)))) ⌝ }
     ensures bytes { λ r. ⌜ now (out .exit) ≡ putOver (putTo s (recover (thaw s) (now (checkpoint .entry)) (now (log .entry)) (length (now (out .entry))))) (now (out .entry)) ⌝ }
 {
-    let fine = flat::known(s.due, s.phase);
+    let fine = boundary::known(s.due, s.phase);
     if !fine {
-        return flat::not_a_state(s);
+        return boundary::not_a_state(s);
     }
-    let state = flat::thaw(s);
+    let state = boundary::thaw(s);
     let a = recovering::recover(state, checkpoint, log, out);
-    flat::reply_of(a)
+    boundary::reply_of(a)
 }
 
 // ---- for a host and a screen

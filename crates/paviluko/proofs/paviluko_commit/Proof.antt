@@ -3,7 +3,7 @@ use borrow.Author.Needs.{needs}
 use denote.Ref.{now}
 use Rattle.protocol.specs.declared.State.{State}
 use Rattle.protocol.specs.Commit.{commit}
-use Rattle.flat.specs.Flat.{thaw}
+use Rattle.boundary.specs.Flat.{thaw}
 use Rattle.paviluko.proofs.CarryLaws.{unknown-reply, known-reply}
 use Rattle.paviluko.proofs.paviluko_commit.Statement.{statement}
 use Rattle.paviluko.proofs.paviluko_commit.Tie as tie

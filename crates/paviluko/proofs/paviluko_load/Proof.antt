@@ -1,7 +1,7 @@
 -- `paviluko::paviluko_load` meets its contract: the operation's answer is carried over the boundary. Assumes nothing.
 use borrow.Author.Needs.{needs}
 use mathlib.Core.Path.{ap, _∙_}
-use Rattle.flat.specs.Replies.{replyOf}
+use Rattle.boundary.specs.Replies.{replyOf}
 use Rattle.paviluko.proofs.paviluko_load.Statement.{statement}
 use Rattle.paviluko.proofs.paviluko_load.Tie as tie
 

@@ -2,7 +2,7 @@
 use borrow.Author.Needs.{needs}
 use Rattle.protocol.specs.declared.State.{State}
 use Rattle.protocol.specs.Point.{point}
-use Rattle.flat.specs.Flat.{thaw}
+use Rattle.boundary.specs.Flat.{thaw}
 use Rattle.paviluko.proofs.CarryLaws.{unknown-reply, known-reply}
 use Rattle.paviluko.proofs.paviluko_point.Statement.{statement}
 use Rattle.paviluko.proofs.paviluko_point.Tie as tie

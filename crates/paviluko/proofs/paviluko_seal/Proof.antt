@@ -5,8 +5,8 @@ use lib.ListN.{length}
 use Rattle.protocol.specs.Said.{Answered, shownAs}
 use Rattle.protocol.specs.declared.State.{State}
 use Rattle.protocol.specs.Accept.{seal}
-use Rattle.flat.specs.Flat.{thaw}
-use Rattle.flat.specs.Replies.{replyOf}
+use Rattle.boundary.specs.Flat.{thaw}
+use Rattle.boundary.specs.Replies.{replyOf}
 use Rattle.paviluko.proofs.CarryLaws.{unknown-reply, unknown-put, known-reply, known-put}
 use Rattle.paviluko.proofs.paviluko_seal.Statement.{statement}
 use Rattle.paviluko.proofs.paviluko_seal.Tie as tie

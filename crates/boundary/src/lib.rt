@@ -1,0 +1,460 @@
+// The collector's state and its answers as plain numbers, the form in which they cross to C.
+//
+// A C function can neither take nor give an enum. So the phase and the store that is due stand as numbers, and what a call
+// answers stands as its number, its store and its value. `freeze` writes a state down so, `thaw` reads it; a state whose
+// numbers are none that `freeze` writes is not known. The parts of the state that hold no enum cross as they are.
+ghost use mathlib.Core.Path.{_≡_};
+ghost use mathlib.Core.Bool.{cond};
+ghost use mathlib.Core.List.{[]};
+ghost use Rattle.octets.specs.Lists.{at};
+ghost use Rattle.protocol.specs.Said.{numberOf, valuesOf, shown, shownAs};
+ghost use Rattle.boundary.specs.Flat.{dueOf, plain, dueNumbers, phaseOf, phaseNumber, knownBy, thaw, freeze};
+ghost use Rattle.boundary.specs.Replies.{named, saidOf, replyOf, notAState};
+use protocol::Answer;
+use protocol::Due;
+use protocol::Held;
+use protocol::Journal;
+use protocol::Outcome;
+use protocol::Phase;
+use protocol::Points;
+use protocol::Refusal;
+use protocol::State;
+use protocol::Store;
+use protocol::Vault;
+use table::Table;
+
+// The store that is due: its kind, and the position, the lane and the checkpoint (0 the first, 1 the second) of a kind that
+// has them. What a kind does not have is 0.
+#[repr(C)]
+pub struct DueNumbers {
+    pub position: u64,
+    pub kind: u8,
+    pub lane: u8,
+    pub second: u8,
+}
+
+// The state. Phase 0 is cold, 1 recovering, 2 in service.
+#[repr(C)]
+pub struct FlatState {
+    pub vault: Vault,
+    pub due: DueNumbers,
+    pub table: Table,
+    pub journal: Journal,
+    pub points: Points,
+    pub held: Held,
+    pub key: [u8; 16],
+    pub phase: u8,
+}
+
+// What a call says: number 0 with the store that it names and the bytes that it put out, or 01's number with the value
+// returned with it.
+#[repr(C)]
+pub struct Said {
+    pub value: u64,
+    pub len: u64,
+    pub number: u8,
+    pub store: u8,
+    pub lane: u8,
+}
+
+// The state handed back, and what the call says.
+#[repr(C)]
+pub struct Reply {
+    pub state: FlatState,
+    pub said: Said,
+}
+
+// ---- the store that is due, and the phase
+
+// 1 for true.
+fn bit(b: bool) -> u8
+    ensures { λ r. ⌜ r ≡ cond b 1 0 ⌝ }
+{
+    if b {
+        return 1;
+    }
+    0
+}
+
+// The due store of these numbers; nothing where the kind is none.
+pub fn due_of(d: DueNumbers) -> Due
+    ensures { λ r. ⌜ r ≡ dueOf d ⌝ }
+{
+    if d.kind == 1 {
+        return Due::Record;
+    }
+    if d.kind == 2 {
+        return Due::File;
+    }
+    if d.kind == 3 {
+        return Due::Version;
+    }
+    if d.kind == 4 {
+        return Due::TruncateR {
+            lane: d.lane,
+            position: d.position,
+        };
+    }
+    if d.kind == 5 {
+        return Due::TruncateDelete {
+            position: d.position,
+        };
+    }
+    if d.kind == 6 {
+        return Due::RecoverFile {
+            second: d.second == 1,
+        };
+    }
+    if d.kind == 7 {
+        return Due::RecoverVersion {
+            second: d.second == 1,
+        };
+    }
+    if d.kind == 8 {
+        return Due::RecoverSeal;
+    }
+    if d.kind == 9 {
+        return Due::RecoverR { lane: d.lane };
+    }
+    if d.kind == 10 {
+        return Due::RecoverEpoch;
+    }
+    if d.kind == 11 {
+        return Due::RecoverV { lane: d.lane };
+    }
+    if d.kind == 12 {
+        return Due::RecoverEmpty;
+    }
+    Due::Nothing
+}
+
+// The numbers of a kind that has none of the other fields.
+fn plain(kind: u8) -> DueNumbers
+    ensures { λ r. ⌜ r ≡ plain kind ⌝ }
+{
+    DueNumbers {
+        position: 0,
+        kind,
+        lane: 0,
+        second: 0,
+    }
+}
+
+// The numbers of a due store.
+pub fn due_numbers(d: Due) -> DueNumbers
+    ensures { λ r. ⌜ r ≡ dueNumbers d ⌝ }
+{
+    match d {
+        Due::Nothing => plain(0),
+        Due::Record => plain(1),
+        Due::File => plain(2),
+        Due::Version => plain(3),
+        Due::TruncateR { lane, position } => DueNumbers {
+            position,
+            kind: 4,
+            lane,
+            second: 0,
+        },
+        Due::TruncateDelete { position } => DueNumbers {
+            position,
+            kind: 5,
+            lane: 0,
+            second: 0,
+        },
+        Due::RecoverFile { second } => DueNumbers {
+            position: 0,
+            kind: 6,
+            lane: 0,
+            second: bit(second),
+        },
+        Due::RecoverVersion { second } => DueNumbers {
+            position: 0,
+            kind: 7,
+            lane: 0,
+            second: bit(second),
+        },
+        Due::RecoverSeal => plain(8),
+        Due::RecoverR { lane } => DueNumbers {
+            position: 0,
+            kind: 9,
+            lane,
+            second: 0,
+        },
+        Due::RecoverEpoch => plain(10),
+        Due::RecoverV { lane } => DueNumbers {
+            position: 0,
+            kind: 11,
+            lane,
+            second: 0,
+        },
+        Due::RecoverEmpty => plain(12),
+    }
+}
+
+// The phase of a number; cold where it is none.
+pub fn phase_of(p: u8) -> Phase
+    ensures { λ r. ⌜ r ≡ phaseOf p ⌝ }
+{
+    if p == 1 {
+        return Phase::Recovering;
+    }
+    if p == 2 {
+        return Phase::Serving;
+    }
+    Phase::Cold
+}
+
+// The number of a phase.
+pub fn phase_number(p: Phase) -> u8
+    ensures { λ r. ⌜ r ≡ phaseNumber p ⌝ }
+{
+    match p {
+        Phase::Cold => 0,
+        Phase::Recovering => 1,
+        Phase::Serving => 2,
+    }
+}
+
+// ---- the state
+
+// Whether a due store and a phase are written down so.
+pub fn known(d: DueNumbers, p: u8) -> bool
+    ensures { λ r. ⌜ r ≡ knownBy d p ⌝ }
+{
+    let due = due_of(d);
+    let e = due_numbers(due);
+    let phase = phase_of(p);
+    let q = phase_number(phase);
+    (e.position == d.position)
+        & (e.kind == d.kind)
+        & (e.lane == d.lane)
+        & (e.second == d.second)
+        & (q == p)
+}
+
+// The state that stands in these numbers.
+pub fn thaw(s: FlatState) -> State
+    ensures { λ r. ⌜ r ≡ thaw s ⌝ }
+{
+    let phase = phase_of(s.phase);
+    let due = due_of(s.due);
+    let vault = s.vault;
+    let table = s.table;
+    let journal = s.journal;
+    let points = s.points;
+    let held = s.held;
+    let key = s.key;
+    State {
+        vault,
+        phase,
+        due,
+        table,
+        journal,
+        points,
+        held,
+        key,
+    }
+}
+
+// A state, written down.
+pub fn freeze(c: State) -> FlatState
+    ensures { λ r. ⌜ r ≡ freeze c ⌝ }
+{
+    let p = c.phase;
+    let d = c.due;
+    let phase = phase_number(p);
+    let due = due_numbers(d);
+    let vault = c.vault;
+    let table = c.table;
+    let journal = c.journal;
+    let points = c.points;
+    let held = c.held;
+    let key = c.key;
+    FlatState {
+        vault,
+        due,
+        table,
+        journal,
+        points,
+        held,
+        key,
+        phase,
+    }
+}
+
+// ---- what a call says
+
+// A store that is named, with so many bytes put out.
+fn named(store: Store, len: u64) -> Said
+    ensures { λ r. ⌜ r ≡ named store len ⌝ }
+{
+    match store {
+        Store::Nothing => Said {
+            value: 0,
+            len,
+            number: 0,
+            store: 0,
+            lane: 0,
+        },
+        Store::W { lane, value } => Said {
+            value,
+            len,
+            number: 0,
+            store: 1,
+            lane,
+        },
+        Store::V { lane, value } => Said {
+            value,
+            len,
+            number: 0,
+            store: 2,
+            lane,
+        },
+        Store::R { lane, value } => Said {
+            value,
+            len,
+            number: 0,
+            store: 3,
+            lane,
+        },
+        Store::E { value } => Said {
+            value,
+            len,
+            number: 0,
+            store: 4,
+            lane: 0,
+        },
+        Store::S { value } => Said {
+            value,
+            len,
+            number: 0,
+            store: 5,
+            lane: 0,
+        },
+        Store::N { value } => Said {
+            value,
+            len,
+            number: 0,
+            store: 6,
+            lane: 0,
+        },
+        Store::Record { position } => Said {
+            value: position,
+            len,
+            number: 0,
+            store: 7,
+            lane: 0,
+        },
+        Store::File => Said {
+            value: 0,
+            len,
+            number: 0,
+            store: 8,
+            lane: 0,
+        },
+        Store::Delete { position } => Said {
+            value: position,
+            len,
+            number: 0,
+            store: 9,
+            lane: 0,
+        },
+        Store::Empty => Said {
+            value: 0,
+            len,
+            number: 0,
+            store: 10,
+            lane: 0,
+        },
+    }
+}
+
+// 01's number of a refusal.
+fn number_of(why: Refusal) -> u8
+    ensures { λ r. ⌜ r ≡ numberOf why ⌝ }
+{
+    match why {
+        Refusal::Condition => 1,
+        Refusal::Numbers => 2,
+        Refusal::Length { right } => 3,
+        Refusal::Transaction => 4,
+        Refusal::Lane => 5,
+        Refusal::Position => 6,
+        Refusal::Full => 7,
+        Refusal::Spent => 8,
+        Refusal::Closed { offset } => 9,
+        Refusal::Epoch { offset } => 10,
+        Refusal::Turn { offset } => 11,
+        Refusal::Version => 12,
+        Refusal::Missing { lane } => 13,
+        Refusal::Point => 14,
+        Refusal::Unseen => 15,
+    }
+}
+
+// The value returned with it, 0 where there is none.
+fn value_of(why: Refusal) -> u64
+    ensures { λ r. ⌜ r ≡ at (valuesOf why) 0 ⌝ }
+{
+    match why {
+        Refusal::Condition => 0,
+        Refusal::Numbers => 0,
+        Refusal::Length { right } => right as u64,
+        Refusal::Transaction => 0,
+        Refusal::Lane => 0,
+        Refusal::Position => 0,
+        Refusal::Full => 0,
+        Refusal::Spent => 0,
+        Refusal::Closed { offset } => offset as u64,
+        Refusal::Epoch { offset } => offset as u64,
+        Refusal::Turn { offset } => offset as u64,
+        Refusal::Version => 0,
+        Refusal::Missing { lane } => lane as u64,
+        Refusal::Point => 0,
+        Refusal::Unseen => 0,
+    }
+}
+
+// What an outcome says.
+pub fn said_of(o: Outcome) -> Said
+    ensures { λ r. ⌜ r ≡ saidOf (shown o) ⌝ }
+{
+    match o {
+        Outcome::Taken { store, len } => named(store, len as u64),
+        Outcome::Refused { why } => {
+            let value = value_of(why);
+            let number = number_of(why);
+            Said {
+                value,
+                len: 0,
+                number,
+                store: 0,
+                lane: 0,
+            }
+        }
+    }
+}
+
+// The reply of a call that answered so.
+pub fn reply_of(a: Answer) -> Reply
+    ensures { λ r. ⌜ r ≡ replyOf (shownAs a []) ⌝ }
+{
+    let outcome = a.outcome;
+    let said = said_of(outcome);
+    let state = freeze(a.state);
+    Reply { state, said }
+}
+
+// The reply to a state that is not known: number 1, and the state as it came.
+pub fn not_a_state(s: FlatState) -> Reply
+    ensures { λ r. ⌜ r ≡ notAState s ⌝ }
+{
+    let said = Said {
+        value: 0,
+        len: 0,
+        number: 1,
+        store: 0,
+        lane: 0,
+    };
+    Reply { state: s, said }
+}
