@@ -20,7 +20,7 @@ use Rattle.protocol.specs.declared.Due.the-variants as D
 use Rattle.protocol.specs.declared.Refusal.the-variants as R
 use Rattle.protocol.specs.declared.Answer.{Answer}
 use Rattle.state.specs.Parts.{validBy, refusedWith}
-use Rattle.filing.specs.Steps.{sealStep, fileStep, versionStep}
+use Rattle.checkpoint_steps.specs.Steps.{sealStep, fileStep, versionStep}
 use Rattle.checkpointing.specs.declared.Part.{Part}
 use Rattle.checkpointing.specs.declared.Part.the-variants as P
 use Rattle.checkpointing.specs.Parts.{partOf, firstCall, lastCall, callOf}

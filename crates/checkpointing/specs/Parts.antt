@@ -12,7 +12,7 @@ use Rattle.protocol.specs.declared.State.{State}
 use Rattle.protocol.specs.declared.Due.{Due}
 use Rattle.protocol.specs.declared.Due.the-variants as D
 use Rattle.protocol.specs.declared.Store.the-variants as S
-use Rattle.filing.specs.Steps.{fileStep}
+use Rattle.checkpoint_steps.specs.Steps.{fileStep}
 use Rattle.checkpointing.specs.declared.Part.{Part}
 use Rattle.checkpointing.specs.declared.Part.the-variants as P
 

@@ -50,7 +50,7 @@ fn first_call(c: State) -> Answer
     if (COUNTER_MAX <= x.s) | (COUNTER_MAX <= x.n) {
         return state::refused(c, Refusal::Spent);
     }
-    filing::seal_step(c, Due::File)
+    checkpoint_steps::seal_step(c, Due::File)
 }
 
 // The call that names S, behind which the points are covered. It refuses an S at the maximum (1).
@@ -65,7 +65,7 @@ fn last_call(c: State) -> Answer
     let points = journal::points::covered_points(p);
     let mut next = c;
     next.points = points;
-    filing::version_step(next, Due::Nothing)
+    checkpoint_steps::version_step(next, Due::Nothing)
 }
 
 // Checkpoint: names N, puts the file out, names S, a call each. It refuses a state that is not valid and in service,
@@ -86,7 +86,7 @@ pub fn checkpoint(c: State, out: &mut [u8]) -> Answer
     let part = part_of(due);
     match part {
         Part::Seal => first_call(c),
-        Part::File => filing::file_step(c, Due::Version, out),
+        Part::File => checkpoint_steps::file_step(c, Due::Version, out),
         Part::Version => last_call(c),
         Part::None => state::refused(c, Refusal::Condition),
     }

@@ -28,7 +28,7 @@ use Rattle.protocol.specs.declared.Due.the-variants as D
 use Rattle.protocol.specs.declared.Store.the-variants as S
 use Rattle.protocol.specs.declared.Refusal.the-variants as R
 use Rattle.state.specs.Parts.{validBy, refusedWith, takenWith}
-use Rattle.filing.specs.Steps.{fileStep}
+use Rattle.checkpoint_steps.specs.Steps.{fileStep}
 use Rattle.recovering.specs.declared.go_on.Part.{Part}
 use Rattle.recovering.specs.declared.go_on.Part.the-variants as P
 use Rattle.recovering.specs.declared.go_on.Step.{Step}

@@ -18,7 +18,7 @@ use Rattle.protocol.specs.declared.Store.{Store}
 use Rattle.protocol.specs.declared.Store.the-variants as S
 use Rattle.protocol.specs.declared.Outcome.the-variants as O
 use Rattle.protocol.specs.declared.Refusal.the-variants as R
-use Rattle.filing.specs.Steps.{fileStep}
+use Rattle.checkpoint_steps.specs.Steps.{fileStep}
 use Rattle.recovering.specs.declared.go_on.Part.{Part}
 use Rattle.recovering.specs.declared.go_on.Part.the-variants as P
 use Rattle.recovering.specs.declared.go_on.Step.{Step}

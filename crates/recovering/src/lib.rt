@@ -99,7 +99,7 @@ pub fn recover(c: State, checkpoint: &[u8], log: &[u8], out: &mut [u8]) -> Answe
                     let t = c.table;
                     let version = s + 1;
                     let seal = x.n;
-                    filing::put_table(key, version, seal, t, out);
+                    checkpoint_steps::put_table(key, version, seal, t, out);
                     let journal = c.journal;
                     let points = c.points;
                     let held = c.held;

@@ -7,7 +7,7 @@ ghost use Rattle.gcm.specs.Answers.{putOver};
 ghost use Rattle.sealed.specs.Aead.{aesGcm};
 ghost use Rattle.sealed.specs.Checkpoint.{fileBytes, fileAnswer, filePut};
 ghost use Rattle.protocol.specs.Said.{shownAs};
-ghost use Rattle.filing.specs.Steps.{sealStep, fileStep, versionStep};
+ghost use Rattle.checkpoint_steps.specs.Steps.{sealStep, fileStep, versionStep};
 use protocol::Answer;
 use protocol::Due;
 use protocol::Refusal;

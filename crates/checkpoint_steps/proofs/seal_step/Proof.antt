@@ -1,12 +1,12 @@
--- `filing::seal_step` meets its contract: each way out is the definition's. Assumes nothing.
+-- `checkpoint_steps::seal_step` meets its contract: each way out is the definition's. Assumes nothing.
 use mathlib.Core.Path.{refl, ap, _∙_}
 use mathlib.Core.List.{[]}
 use borrow.Author.Needs.{needs}
 use Rattle.protocol.specs.Said.{shownAs}
 use Rattle.protocol.specs.declared.Answer.{Answer}
-use Rattle.filing.proofs.PathLaws.{seal-spent, seal-taken}
-use Rattle.filing.proofs.seal_step.Statement.{statement}
-use Rattle.filing.proofs.seal_step.Tie as tie
+use Rattle.checkpoint_steps.proofs.PathLaws.{seal-spent, seal-taken}
+use Rattle.checkpoint_steps.proofs.seal_step.Statement.{statement}
+use Rattle.checkpoint_steps.proofs.seal_step.Tie as tie
 
 returns : tie.Need-returns
 returns c =

@@ -30,7 +30,7 @@ use Rattle.protocol.specs.declared.Due.{Due}
 use Rattle.protocol.specs.declared.Store.the-variants as S
 use Rattle.protocol.specs.declared.Refusal.the-variants as R
 use Rattle.state.specs.Parts.{refusedWith, takenWith}
-use Rattle.filing.specs.Steps.{sealStep, fileStep, versionStep}
+use Rattle.checkpoint_steps.specs.Steps.{sealStep, fileStep, versionStep}
 
 -- ---- a table's file
 

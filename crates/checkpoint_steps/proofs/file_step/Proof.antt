@@ -1,14 +1,14 @@
--- `filing::file_step` meets its contract: each way out is the definition's. Assumes nothing.
+-- `checkpoint_steps::file_step` meets its contract: each way out is the definition's. Assumes nothing.
 use mathlib.Core.Path.{_≡_, refl, ap, _∙_}
 use lib.ListN.{length}
 use borrow.Author.Needs.{needs}
 use Rattle.table.proofs.Arrays.{length-of-map}
 use Rattle.protocol.specs.Said.{shownAs}
 use Rattle.protocol.specs.declared.Answer.{Answer}
-use Rattle.filing.specs.Steps.{fileStep}
-use Rattle.filing.proofs.PathLaws.{file-spent, file-short, file-taken}
-use Rattle.filing.proofs.file_step.Statement.{statement}
-use Rattle.filing.proofs.file_step.Tie as tie
+use Rattle.checkpoint_steps.specs.Steps.{fileStep}
+use Rattle.checkpoint_steps.proofs.PathLaws.{file-spent, file-short, file-taken}
+use Rattle.checkpoint_steps.proofs.file_step.Statement.{statement}
+use Rattle.checkpoint_steps.proofs.file_step.Tie as tie
 
 returns : tie.Need-returns
 returns c =
