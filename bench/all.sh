@@ -4,8 +4,8 @@
 set -euo pipefail
 cd "$(dirname "$0")/.."
 
-rt staticlib cipher_c | tail -n 1
-rt staticlib sealed_c | tail -n 1
+rt staticlib test_cipher | tail -n 1
+rt staticlib test_sealed | tail -n 1
 rt staticlib collector_c | tail -n 1
 rt staticlib paviluko | tail -n 1
 sh bench/run.sh

@@ -3,8 +3,8 @@
 # against the bare cipher; a day of all collectors, and the stack of each call, through the C boundary. Run from the repository's top; the libraries are built before.
 set -eu
 
-library=target/staticlib/libcipher_c.a
-sealed=target/staticlib/libsealed_c.a
+library=target/staticlib/libtest_cipher.a
+sealed=target/staticlib/libtest_sealed.a
 collector=target/staticlib/libcollector_c.a
 boundary=target/staticlib/libpaviluko.a
 built=target/bench

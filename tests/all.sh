@@ -53,12 +53,12 @@ rt staticlib paviluko | tail -n 1
 beside histories
 beside program
 beside boundary
-rt staticlib sealed_c | tail -n 1
+rt staticlib test_sealed | tail -n 1
 beside sealed
-rt staticlib cipher_c | tail -n 1
+rt staticlib test_cipher | tail -n 1
 beside cipher
 
-sh tests/axioms.sh paviluko sealed_c cipher_c
+sh tests/axioms.sh paviluko test_sealed test_cipher
 
 failed=
 for test in cipher sealed boundary histories program; do

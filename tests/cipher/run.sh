@@ -4,7 +4,7 @@
 # Arguments, if any, are the differential test's count and seed.
 set -eu
 
-library=target/staticlib/libcipher_c.a
+library=target/staticlib/libtest_cipher.a
 here=tests/cipher
 built=target/tests/cipher
 

@@ -4,7 +4,7 @@
 # Arguments, if any, are the differential test's count and seed.
 set -eu
 
-library=target/staticlib/libsealed_c.a
+library=target/staticlib/libtest_sealed.a
 here=tests/sealed
 built=target/tests/sealed
 
