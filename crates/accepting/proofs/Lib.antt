@@ -1,2 +1,2 @@
--- PathLaws: what Accept and Seal answer on each of their ways out.
-pub mod PathLaws
+-- AcceptLaws: what Accept and Seal answer on each of their ways out.
+pub mod AcceptLaws

@@ -1,2 +1,2 @@
--- PathLaws: each way out of a step is the definition's.
-pub mod PathLaws
+-- StepLaws: each way out of a step is the definition's.
+pub mod StepLaws

@@ -1,2 +1,2 @@
--- PathLaws: each way out of Checkpoint is the definition's.
-pub mod PathLaws
+-- CheckpointLaws: each way out of Checkpoint is the definition's.
+pub mod CheckpointLaws

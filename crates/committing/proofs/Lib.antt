@@ -1,2 +1,2 @@
--- PathLaws: each way out of Commit is the definition's.
-pub mod PathLaws
+-- CommitLaws: each way out of Commit is the definition's.
+pub mod CommitLaws

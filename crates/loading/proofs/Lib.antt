@@ -1,2 +1,2 @@
--- PathLaws: what Load answers on each of its ways out.
-pub mod PathLaws
+-- LoadLaws: what Load answers on each of its ways out.
+pub mod LoadLaws

@@ -1,2 +1,2 @@
--- PathLaws: what Point answers on each of its ways out.
-pub mod PathLaws
+-- PointLaws: what Point answers on each of its ways out.
+pub mod PointLaws

@@ -1,2 +1,2 @@
--- PathLaws: what Truncate answers on each of its ways out.
-pub mod PathLaws
+-- TruncateLaws: what Truncate answers on each of its ways out.
+pub mod TruncateLaws

@@ -6,7 +6,7 @@ use Rattle.table.proofs.Arrays.{length-of-map}
 use Rattle.protocol.specs.Said.{shownAs}
 use Rattle.protocol.specs.declared.Answer.{Answer}
 use Rattle.checkpoint_steps.specs.Steps.{fileStep}
-use Rattle.checkpoint_steps.proofs.PathLaws.{file-spent, file-short, file-taken}
+use Rattle.checkpoint_steps.proofs.StepLaws.{file-spent, file-short, file-taken}
 use Rattle.checkpoint_steps.proofs.file_step.Statement.{statement}
 use Rattle.checkpoint_steps.proofs.file_step.Tie as tie
 

@@ -2,7 +2,7 @@
 use mathlib.Core.Path.{refl}
 use borrow.Author.Needs.{needs}
 use Rattle.gcm.proofs.KeyLaws.{keyOf, prepared-parts}
-use Rattle.checkpoint_steps.proofs.PathLaws.{sealed-under}
+use Rattle.checkpoint_steps.proofs.StepLaws.{sealed-under}
 use Rattle.checkpoint_steps.proofs.put_table.Statement.{statement}
 use Rattle.checkpoint_steps.proofs.put_table.Tie as tie
 

@@ -4,7 +4,7 @@ use mathlib.Core.List.{[]}
 use borrow.Author.Needs.{needs}
 use Rattle.protocol.specs.Said.{shownAs}
 use Rattle.protocol.specs.declared.Answer.{Answer}
-use Rattle.checkpoint_steps.proofs.PathLaws.{seal-spent, seal-taken}
+use Rattle.checkpoint_steps.proofs.StepLaws.{seal-spent, seal-taken}
 use Rattle.checkpoint_steps.proofs.seal_step.Statement.{statement}
 use Rattle.checkpoint_steps.proofs.seal_step.Tie as tie
 

@@ -4,7 +4,7 @@ use mathlib.Core.List.{[]}
 use borrow.Author.Needs.{needs}
 use Rattle.protocol.specs.Said.{shownAs}
 use Rattle.protocol.specs.declared.Answer.{Answer}
-use Rattle.checkpoint_steps.proofs.PathLaws.{version-spent, version-taken}
+use Rattle.checkpoint_steps.proofs.StepLaws.{version-spent, version-taken}
 use Rattle.checkpoint_steps.proofs.version_step.Statement.{statement}
 use Rattle.checkpoint_steps.proofs.version_step.Tie as tie
 

@@ -1,6 +1,6 @@
 -- `checkpointing::checkpoint` meets its contract: each call is the definition's. Assumes nothing.
 use borrow.Author.Needs.{needs}
-use Rattle.checkpointing.proofs.PathLaws.{checkpoint-condition, checkpoint-first, checkpoint-file, checkpoint-last, checkpoint-other}
+use Rattle.checkpointing.proofs.CheckpointLaws.{checkpoint-condition, checkpoint-first, checkpoint-file, checkpoint-last, checkpoint-other}
 use Rattle.checkpointing.proofs.checkpoint.Statement.{statement}
 use Rattle.checkpointing.proofs.checkpoint.Tie as tie
 

@@ -4,7 +4,7 @@ use mathlib.Core.List.{[]}
 use borrow.Author.Needs.{needs}
 use Rattle.protocol.specs.Said.{shownAs}
 use Rattle.protocol.specs.declared.Answer.{Answer}
-use Rattle.checkpointing.proofs.PathLaws.{first-spent, first-taken}
+use Rattle.checkpointing.proofs.CheckpointLaws.{first-spent, first-taken}
 use Rattle.checkpointing.proofs.first_call.Statement.{statement}
 use Rattle.checkpointing.proofs.first_call.Tie as tie
 

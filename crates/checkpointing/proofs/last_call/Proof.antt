@@ -4,7 +4,7 @@ use mathlib.Core.List.{[]}
 use borrow.Author.Needs.{needs}
 use Rattle.protocol.specs.Said.{shownAs}
 use Rattle.protocol.specs.declared.Answer.{Answer}
-use Rattle.checkpointing.proofs.PathLaws.{last-spent, last-taken}
+use Rattle.checkpointing.proofs.CheckpointLaws.{last-spent, last-taken}
 use Rattle.checkpointing.proofs.last_call.Statement.{statement}
 use Rattle.checkpointing.proofs.last_call.Tie as tie
 

@@ -10,7 +10,7 @@ use Rattle.protocol.specs.declared.Answer.{Answer}
 use Rattle.protocol.specs.declared.State.{State}
 use Rattle.protocol.specs.declared.Store.the-variants as S
 use Rattle.protocol.specs.declared.Refusal.the-variants as R
-use Rattle.loading.proofs.PathLaws.{load-numbers, load-length, load-taken}
+use Rattle.loading.proofs.LoadLaws.{load-numbers, load-length, load-taken}
 use Rattle.loading.proofs.load.Statement.{statement}
 use Rattle.loading.proofs.load.Tie as tie
 

@@ -4,7 +4,7 @@ use mathlib.Core.Path.{_≡_, ap, _∙_}
 use mathlib.Core.List.{[]}
 use Rattle.protocol.specs.Said.{Answered, shownAs}
 use Rattle.protocol.specs.declared.Answer.{Answer}
-use Rattle.pointing.proofs.PathLaws.{point-condition, point-position, point-full, point-unseen, point-taken}
+use Rattle.pointing.proofs.PointLaws.{point-condition, point-position, point-full, point-unseen, point-taken}
 use Rattle.pointing.proofs.point.Statement.{statement}
 use Rattle.pointing.proofs.point.Tie as tie
 

@@ -6,7 +6,7 @@ use lib.ListN.{length}
 use Rattle.table.proofs.Arrays.{length-of-map}
 use Rattle.protocol.specs.Said.{shownAs}
 use Rattle.protocol.specs.declared.Answer.{Answer}
-use Rattle.checkpoint_steps.proofs.PathLaws.{file-spent, file-short, file-taken}
+use Rattle.checkpoint_steps.proofs.StepLaws.{file-spent, file-short, file-taken}
 use Rattle.recovering.specs.Parts.{stepped, numberCall}
 use Rattle.recovering.proofs.StartLaws.{n-room, first-condition, first-long, first-spent, first-taken, first-stopped}
 use Rattle.recovering.proofs.OnLaws.{emptied, on-number, on-empty, on-file, on-cold, on-serving, on-invalid, on-valid}

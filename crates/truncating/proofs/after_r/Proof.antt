@@ -1,6 +1,6 @@
 -- `truncating::after_r` meets its contract: below lane 7 the next lane follows, and else the deletion. Assumes nothing.
 use borrow.Author.Needs.{needs}
-use Rattle.truncating.proofs.PathLaws.{after-lane, after-last}
+use Rattle.truncating.proofs.TruncateLaws.{after-lane, after-last}
 use Rattle.truncating.proofs.after_r.Statement.{statement}
 use Rattle.truncating.proofs.after_r.Tie as tie
 

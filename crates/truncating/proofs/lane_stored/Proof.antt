@@ -1,7 +1,7 @@
 -- `truncating::lane_stored` meets its contract: the state is the old one but for R of the lane and the store due. Assumes nothing.
 use borrow.Author.Needs.{needs}
 use mathlib.Core.Path.{_∙_}
-use Rattle.truncating.proofs.PathLaws.{lane-made}
+use Rattle.truncating.proofs.TruncateLaws.{lane-made}
 use Rattle.truncating.proofs.lane_stored.Statement.{statement}
 use Rattle.truncating.proofs.lane_stored.Tie as tie
 

@@ -4,7 +4,7 @@ use mathlib.Core.Path.{_≡_, ap, _∙_}
 use mathlib.Core.List.{[]}
 use Rattle.protocol.specs.Said.{Answered, shownAs}
 use Rattle.protocol.specs.declared.Answer.{Answer}
-use Rattle.truncating.proofs.PathLaws.{truncate-condition, first-bare, first-taken, next-off, next-taken, delete-off, delete-taken, other-due}
+use Rattle.truncating.proofs.TruncateLaws.{truncate-condition, first-bare, first-taken, next-off, next-taken, delete-off, delete-taken, other-due}
 use Rattle.truncating.proofs.truncate.Statement.{statement}
 use Rattle.truncating.proofs.truncate.Tie as tie
 
