@@ -7,9 +7,9 @@ use native.Mathlib.Numerals.{add-one}
 use native.Mathlib.Omega.{arith}
 use borrow.Author.Tests.{le-leb, lt-leb, lt-ltb, le-ltb}
 use lib.ListN.{length}
+use Rattle.octets.specs.Lists.{putOver}
 use Rattle.aes.specs.Cipher.{cipher}
 use Rattle.ghash.specs.Multiples.{productBy}
-use Rattle.gcm.specs.Answers.{putOver}
 use Rattle.gcm.specs.Key.{prepared}
 use Rattle.gcm.specs.declared.Key.{Key}
 use Rattle.transaction.specs.Transaction.{meters}

@@ -7,8 +7,8 @@ use mathlib.Core.List.{List, []}
 use borrow.Author.Tests.{le-leb, lt-leb, not-true, not-false}
 use lib.Dec.{leb}
 use lib.ListN.{length}
+use Rattle.octets.specs.Lists.{putOver}
 use Rattle.octets.proofs.BoolLaws.{or-right}
-use Rattle.gcm.specs.Answers.{putOver}
 use Rattle.protocol.specs.Vaults.{counterMax}
 use Rattle.protocol.specs.States.{valid, serving}
 use Rattle.protocol.specs.Said.{Answered, refuse, numberOf, valuesOf, shown, shownAs}

@@ -3,7 +3,7 @@
 ghost use mathlib.Core.Path.{_≡_};
 ghost use mathlib.Core.List.{[]};
 ghost use lib.ListN.{length};
-ghost use Rattle.gcm.specs.Answers.{putOver};
+ghost use Rattle.octets.specs.Lists.{putOver};
 ghost use Rattle.protocol.specs.Said.{shownAs};
 ghost use Rattle.protocol.specs.Checkpoint.{checkpoint};
 ghost use Rattle.checkpointing.specs.Parts.{partOf, firstCall, lastCall};

@@ -4,8 +4,8 @@
 ghost use mathlib.Core.Path.{_≡_};
 ghost use mathlib.Core.List.{[]};
 ghost use lib.ListN.{length, getD};
+ghost use Rattle.octets.specs.Lists.{putOver};
 ghost use Rattle.table.specs.Table.{noEntry};
-ghost use Rattle.gcm.specs.Answers.{putOver};
 ghost use Rattle.protocol.specs.Said.{shownAs};
 ghost use Rattle.protocol.specs.Load.{load};
 ghost use Rattle.protocol.specs.Accept.{accept, seal};

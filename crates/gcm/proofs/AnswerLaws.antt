@@ -10,25 +10,25 @@ use borrow.Author.Tests.{le-ltb, lt-ltb, ltb-false}
 use lib.Dec.{ltb}
 use lib.ListN.{length, take, drop, length-append, length-drop}
 use lib.Seq.{take-at, drop-at, drop-drop, length-take-le}
-use Rattle.octets.specs.Lists.{over}
+use Rattle.octets.specs.Lists.{over, putOver}
 use Rattle.octets.specs.Bytes.{bytesOf, sameBytes}
 use Rattle.octets.proofs.BoolLaws.{or-left, or-right}
 use Rattle.octets.proofs.CopyLaws.{over-room}
 use Rattle.octets.proofs.ByteLaws.{length-bytes}
 use Rattle.aes.specs.Counter.{inc32, gctr}
 use Rattle.aes.proofs.CounterLaws.{gctr-length}
-use Rattle.gcm.specs.Gcm.{maxText, maxData, tagLen, preCounter, onlyIf, cipherText, tagOf, sealed, opened}
-use Rattle.gcm.specs.Answers.{putOver, beyond, sealing, sealPut, textAnswer, textPut, openAnswer, openPut, sealedIn, textIn, opening, openedIn}
+use Rattle.gcm.specs.Gcm.{maxPlain, maxData, tagLen, preCounter, onlyIf, cipherText, tagOf, sealed, opened}
+use Rattle.gcm.specs.Answers.{beyond, sealing, sealPut, textAnswer, textPut, openAnswer, openPut, sealedIn, textIn, opening, openedIn}
 use Rattle.gcm.specs.declared.Sealing.the-variants as S
 use Rattle.gcm.specs.declared.Opening.{Opening}
 use Rattle.gcm.specs.declared.Opening.the-variants as O
 use Rattle.gcm.proofs.SealLaws.{length-cipher-text, length-tag, length-sealed}
 
-pub within-text : (n d : ℕ) → beyond n d ≡ false → n ≤ maxText
-within-text n d e = ltb-false maxText n (or-left (ltb maxText n) (ltb maxData d) e)
+pub within-text : (n d : ℕ) → beyond n d ≡ false → n ≤ maxPlain
+within-text n d e = ltb-false maxPlain n (or-left (ltb maxPlain n) (ltb maxData d) e)
 
 pub within-data : (n d : ℕ) → beyond n d ≡ false → d ≤ maxData
-within-data n d e = ltb-false maxData d (or-right (ltb maxText n) (ltb maxData d) e)
+within-data n d e = ltb-false maxData d (or-right (ltb maxPlain n) (ltb maxData d) e)
 
 module _ (ciph : List ℕ → List ℕ) (whole : (b : List ℕ) → 16 ≤ length (ciph b)) (iv : List ℕ) where
   -- a ciphertext copied into the buffer out, and counter mode over it
@@ -120,10 +120,10 @@ module _ (ciph : List ℕ → List ℕ) (dot : ℕ → ℕ) (iv a s t : List ℕ
 
 -- ---- where all lengths are right
 
-pub within : (n d : ℕ) → n ≤ maxText → d ≤ maxData → beyond n d ≡ false
-within n d hn hd = rw (le-ltb maxText n hn, le-ltb maxData d hd)
+pub within : (n d : ℕ) → n ≤ maxPlain → d ≤ maxData → beyond n d ≡ false
+within n d hn hd = rw (le-ltb maxPlain n hn, le-ltb maxData d hd)
 
-pub sealed-within : (ciph : List ℕ → List ℕ) (dot : ℕ → ℕ) (iv a : List ℕ) (n : ℕ) (s : List ℕ) → n ≤ maxText → length a ≤ maxData → n + 16 ≤ length s
+pub sealed-within : (ciph : List ℕ → List ℕ) (dot : ℕ → ℕ) (iv a : List ℕ) (n : ℕ) (s : List ℕ) → n ≤ maxPlain → length a ≤ maxData → n + 16 ≤ length s
     → sealedIn ciph dot iv a n s ≡ putOver (sealed ciph dot iv a (take n s)) s
 sealed-within ciph dot iv a n s hn ha h = sym (seal-done ciph dot iv a n s _ (within n (length a) hn ha) h refl .1)
 
@@ -132,7 +132,7 @@ unfolding openPut textAnswer textPut
 put-text-answer (some p) = refl
 put-text-answer none = refl
 
-module _ (ciph : List ℕ → List ℕ) (dot : ℕ → ℕ) (iv a s t : List ℕ) (h : 16 ≤ length s) (hs : length s - 16 ≤ maxText) (ha : length a ≤ maxData) (room : length s - 16 ≤ length t) where
+module _ (ciph : List ℕ → List ℕ) (dot : ℕ → ℕ) (iv a s t : List ℕ) (h : 16 ≤ length s) (hs : length s - 16 ≤ maxPlain) (ha : length a ≤ maxData) (room : length s - 16 ≤ length t) where
   pub answer-within : opening ciph dot iv a s (length t) ≡ textAnswer (textIn ciph dot iv a s)
   unfolding opening openAnswer
   answer-within = rw (le-ltb (length s) 16 h, within (length s - 16) (length a) hs ha, le-ltb (length t) (length s - 16) room)

@@ -2,23 +2,20 @@
 -- Assumes nothing.
 use Prim.Native.Nat.{ℕ, _+_, _-_}
 use mathlib.Core.Bool.{Bool, true, false, cond, _||_}
-use mathlib.Core.List.{List, [], _++_}
+use mathlib.Core.List.{List, []}
 use lib.Dec.{ltb}
 use lib.ListN.{length, take, drop}
 use mathlib.Core.Option.{Option, some, none}
-use Rattle.gcm.specs.Gcm.{maxText, maxData, tagLen, sealed, opened}
+use Rattle.octets.specs.Lists.{putOver}
+use Rattle.gcm.specs.Gcm.{maxPlain, maxData, tagLen, sealed, opened}
 use Rattle.gcm.specs.declared.Sealing.{Sealing}
 use Rattle.gcm.specs.declared.Sealing.the-variants as S
 use Rattle.gcm.specs.declared.Opening.{Opening}
 use Rattle.gcm.specs.declared.Opening.the-variants as O
 
--- put stands over the start of s; the bytes behind it stay
-abbrev pub putOver : List ℕ → List ℕ → List ℕ
-putOver put s = put ++ drop (length put) s
-
 -- whether a text of n bytes or data of d bytes is beyond the standard
 abbrev pub beyond : ℕ → ℕ → Bool
-beyond n d = ltb maxText n || ltb maxData d
+beyond n d = ltb maxPlain n || ltb maxData d
 
 -- ---- sealing
 

@@ -13,8 +13,8 @@ use Rattle.ghash.specs.Field.{_•_}
 use Rattle.ghash.specs.Ghash.{blocksOf, ghash}
 
 -- 5.2.1.1: the most bytes of a plaintext or a ciphertext, 2^39 - 256 bits, and of additional authenticated data, 2^64 - 1 bits
-abbrev pub maxText : ℕ
-maxText = 2 ^ 36 - 32
+abbrev pub maxPlain : ℕ
+maxPlain = 2 ^ 36 - 32
 
 abbrev pub maxData : ℕ
 maxData = 2 ^ 61 - 1

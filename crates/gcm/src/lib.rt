@@ -12,13 +12,14 @@ use octets::Block;
 ghost use mathlib.Core.Path.{_≡_};
 ghost use Prim.Native.Nat.{_+_, _≤_};
 ghost use lib.ListN.{length, take, drop};
+ghost use Rattle.octets.specs.Lists.{putOver};
 ghost use Rattle.octets.specs.Blocks.{num};
 ghost use Rattle.octets.specs.Bytes.{bytesOf, sameBytes};
 ghost use Rattle.aes.specs.Cipher.{cipher};
 ghost use Rattle.ghash.specs.Multiples.{multiplesIn, productBy};
-ghost use Rattle.gcm.specs.Gcm.{maxText, maxData, tagLen, aesUnder, subkey, preCounter, hashOf, cipherText, tagOf, sealed};
+ghost use Rattle.gcm.specs.Gcm.{maxPlain, maxData, tagLen, aesUnder, subkey, preCounter, hashOf, cipherText, tagOf, sealed};
 ghost use Rattle.gcm.specs.Key.{prepared};
-ghost use Rattle.gcm.specs.Answers.{putOver, sealing, sealedIn, opening, openedIn};
+ghost use Rattle.gcm.specs.Answers.{sealing, sealedIn, opening, openedIn};
 
 // A prepared key.
 pub struct Key {
@@ -49,7 +50,7 @@ pub enum Opening {
 }
 
 // The most bytes of a text and of additional data, and the bytes of a tag.
-pub const MAX_TEXT: usize = 0xf_ffff_ffe0;
+pub const MAX_PLAIN: usize = 0xf_ffff_ffe0;
 
 pub const MAX_DATA: usize = 0x1fff_ffff_ffff_ffff;
 
@@ -93,7 +94,7 @@ pub fn prepare(key: [u8; 16]) -> Key
 
 // The hash of the data and the ciphertext.
 fn hash_of(m: &[u64; 1024], aad: &[u8], c: &[u8]) -> Block
-    requires { ⌜ (length (now aad) ≤ maxData) × (length (now c) ≤ maxText) ⌝ }
+    requires { ⌜ (length (now aad) ≤ maxData) × (length (now c) ≤ maxPlain) ⌝ }
     ensures { λ r. ⌜ num r ≡ hashOf (productBy (now (m .entry))) (now (aad .entry)) (now (c .entry)) ⌝ }
 {
     let y = ghash::hash(m, Block { hi: 0, lo: 0 }, aad);
@@ -107,7 +108,7 @@ fn hash_of(m: &[u64; 1024], aad: &[u8], c: &[u8]) -> Block
 
 // The tag of the data and the ciphertext.
 fn tag_of(w: &[u32; 44], m: &[u64; 1024], iv: [u8; 12], aad: &[u8], c: &[u8]) -> Block
-    requires { ⌜ (length (now aad) ≤ maxData) × (length (now c) ≤ maxText) ⌝ }
+    requires { ⌜ (length (now aad) ≤ maxData) × (length (now c) ≤ maxPlain) ⌝ }
     ensures { λ r. ⌜ bytesOf 16 (num r) ≡ tagOf (cipher (now (w .entry))) (productBy (now (m .entry))) iv (now (aad .entry)) (now (c .entry)) ⌝ }
 {
     let s = hash_of(m, aad, c);
@@ -117,7 +118,7 @@ fn tag_of(w: &[u32; 44], m: &[u64; 1024], iv: [u8; 12], aad: &[u8], c: &[u8]) ->
 
 // Encrypts the first n bytes of buf in their place and puts the tag behind them.
 fn put_sealed(w: &[u32; 44], m: &[u64; 1024], iv: [u8; 12], aad: &[u8], buf: &mut [u8], n: usize)
-    requires { ⌜ (length (now aad) ≤ maxData) × (n ≤ maxText) × (n + tagLen ≤ length (now buf)) ⌝ }
+    requires { ⌜ (length (now aad) ≤ maxData) × (n ≤ maxPlain) × (n + tagLen ≤ length (now buf)) ⌝ }
     ensures { λ _. ⌜ now (buf .exit) ≡ putOver (sealed (cipher (now (w .entry))) (productBy (now (m .entry))) iv (now (aad .entry)) (take n (now (buf .entry)))) (now (buf .entry)) ⌝ }
 {
     aes::counter(w, aes::next(pre_counter(iv)), &mut buf[..n]);
@@ -127,7 +128,7 @@ fn put_sealed(w: &[u32; 44], m: &[u64; 1024], iv: [u8; 12], aad: &[u8], buf: &mu
 
 // Whether the bytes of s from n on are the tag of those before them.
 fn fits(w: &[u32; 44], m: &[u64; 1024], iv: [u8; 12], aad: &[u8], s: &[u8], n: usize) -> bool
-    requires { ⌜ (length (now aad) ≤ maxData) × (n ≤ maxText) × (n ≤ length (now s)) ⌝ }
+    requires { ⌜ (length (now aad) ≤ maxData) × (n ≤ maxPlain) × (n ≤ length (now s)) ⌝ }
     ensures { λ r. ⌜ r ≡ sameBytes (drop n (now (s .entry))) (tagOf (cipher (now (w .entry))) (productBy (now (m .entry))) iv (now (aad .entry)) (take n (now (s .entry)))) ⌝ }
 {
     let tag = octets::block_bytes(tag_of(w, m, iv, aad, &s[..n]));
@@ -156,7 +157,7 @@ pub fn seal_with<'a>(
     ensures answer { λ r. ⌜ r ≡ sealing (length (now (aad .entry))) n (length (now (buf .entry))) ⌝ }
     ensures buffer { λ r. ⌜ now (buf .exit) ≡ sealedIn (cipher (now (w .entry))) (productBy (now (m .entry))) iv (now (aad .entry)) n (now (buf .entry)) ⌝ }
 {
-    if (MAX_TEXT < n) | (MAX_DATA < aad.len()) {
+    if (MAX_PLAIN < n) | (MAX_DATA < aad.len()) {
         return Sealing::Long;
     }
     let e = n + TAG_LEN;
@@ -184,7 +185,7 @@ pub fn open_with<'a>(
         return Opening::Fail;
     }
     let n = s.len() - TAG_LEN;
-    if (MAX_TEXT < n) | (MAX_DATA < aad.len()) {
+    if (MAX_PLAIN < n) | (MAX_DATA < aad.len()) {
         return Opening::Long;
     }
     if out.len() < n {

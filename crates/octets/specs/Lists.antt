@@ -17,6 +17,10 @@ from i (suc n) f = f i ∷ from (suc i) n f
 abbrev pub tab : ℕ → (ℕ → ℕ) → List ℕ
 tab n f = from 0 n f
 
+-- put stands over the start of s; the bytes behind it stay
+abbrev pub putOver : List ℕ → List ℕ → List ℕ
+putOver put s = put ++ drop (length put) s
+
 -- s copied over the start of d, as much of it as d has room for; the rest of d stays
 unfoldable pub over : List ℕ → List ℕ → List ℕ
 over s d = take (length d) s ++ drop (length s) d

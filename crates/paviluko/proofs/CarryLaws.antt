@@ -7,7 +7,7 @@ use mathlib.Core.Path.{_≡_, ap, sym, _∙_}
 use mathlib.Core.Bool.{Bool, true, false, not, cond}
 use mathlib.Core.List.{List, []}
 use borrow.Author.Tests.{not-true, not-false}
-use Rattle.gcm.specs.Answers.{putOver}
+use Rattle.octets.specs.Lists.{putOver}
 use Rattle.protocol.specs.Said.{Answered}
 use Rattle.protocol.specs.declared.State.{State}
 use Rattle.boundary.specs.Flat.{known, thaw}

@@ -6,7 +6,7 @@
 // are not known is refused with 1 and handed back as it came.
 ghost use mathlib.Core.Path.{_≡_};
 ghost use lib.ListN.{length, getD};
-ghost use Rattle.gcm.specs.Answers.{putOver};
+ghost use Rattle.octets.specs.Lists.{putOver};
 ghost use Rattle.table.specs.Table.{noEntry};
 ghost use Rattle.protocol.specs.Load.{load};
 ghost use Rattle.protocol.specs.Accept.{accept, seal};

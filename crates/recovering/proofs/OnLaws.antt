@@ -9,9 +9,8 @@ use native.Mathlib.Omega.{arith}
 use borrow.Author.Tests.{not-true, not-false, le-leb, lt-leb, lt-ltb, le-ltb}
 use lib.Dec.{leb}
 use lib.ListN.{length}
-use Rattle.octets.specs.Lists.{at}
+use Rattle.octets.specs.Lists.{at, putOver}
 use Rattle.table.specs.Table.{lanes}
-use Rattle.gcm.specs.Answers.{putOver}
 use Rattle.protocol.specs.Vaults.{counterMax, setV, setR, setE, setS, setN}
 use Rattle.protocol.specs.States.{noJournal, noPoints, valid}
 use Rattle.protocol.specs.Said.{Answered, refuse, refusing, numberOf, valuesOf, shown, shownAs}

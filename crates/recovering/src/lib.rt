@@ -2,7 +2,7 @@
 // recovery follow, one a call, and behind the last it is in service.
 ghost use mathlib.Core.Path.{_≡_};
 ghost use lib.ListN.{length};
-ghost use Rattle.gcm.specs.Answers.{putOver};
+ghost use Rattle.octets.specs.Lists.{putOver};
 ghost use Rattle.protocol.specs.Said.{shownAs};
 ghost use Rattle.protocol.specs.Recover.{recover};
 use go_on::Part;

@@ -12,7 +12,7 @@ use borrow.Rule.Slice.PartMut.{midOf}
 use lib.Dec.{leb, eqb}
 use lib.ListN.{length, take, drop, length-append, length-drop, drop-of-length-le}
 use lib.Seq.{take-at, drop-at, length-take-le}
-use Rattle.octets.specs.Lists.{at, tab, over}
+use Rattle.octets.specs.Lists.{at, tab, over, putOver}
 use Rattle.octets.specs.Bytes.{padded, sameBytes}
 use Rattle.octets.specs.Little.{little, littleBytes}
 use Rattle.octets.proofs.BoolLaws.{and-left}
@@ -23,7 +23,7 @@ use Rattle.aes.specs.Cipher.{cipher}
 use Rattle.aes.proofs.CounterLaws.{cipher-length}
 use Rattle.ghash.specs.Multiples.{productBy}
 use Rattle.gcm.specs.Gcm.{onlyIf, tagOf, cipherText, opened}
-use Rattle.gcm.specs.Answers.{putOver, textPut}
+use Rattle.gcm.specs.Answers.{textPut}
 use Rattle.gcm.specs.Key.{prepared}
 use Rattle.gcm.proofs.SealLaws.{length-cipher-text}
 use Rattle.table.specs.declared.Table.{Table}

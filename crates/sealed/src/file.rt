@@ -2,9 +2,9 @@
 ghost use mathlib.Core.Path.{_≡_};
 ghost use mathlib.Core.Option.{none};
 ghost use lib.ListN.{length};
+ghost use Rattle.octets.specs.Lists.{putOver};
 ghost use Rattle.aes.specs.Cipher.{cipher};
 ghost use Rattle.ghash.specs.Multiples.{productBy};
-ghost use Rattle.gcm.specs.Answers.{putOver};
 ghost use Rattle.sealed.specs.Aead.{gcmBy};
 ghost use Rattle.sealed.specs.Checkpoint.{fileHead, fileNonce, fileBytes, fileAnswer, filePut, legalFile, openFile, shownFile};
 use super::frame;

@@ -2,10 +2,11 @@
 ghost use mathlib.Core.Path.{_≡_};
 ghost use Prim.Native.Nat.{_+_, _-_, _≤_};
 ghost use lib.ListN.{length, take};
+ghost use Rattle.octets.specs.Lists.{putOver};
 ghost use Rattle.aes.specs.Cipher.{cipher};
 ghost use Rattle.ghash.specs.Multiples.{productBy};
 ghost use Rattle.gcm.specs.Gcm.{tagLen};
-ghost use Rattle.gcm.specs.Answers.{putOver, textPut};
+ghost use Rattle.gcm.specs.Answers.{textPut};
 ghost use Rattle.sealed.specs.Aead.{gcmBy};
 ghost use Rattle.sealed.specs.Frame.{frameLen, framed, unframed, isSome, isText};
 use gcm::Opening;

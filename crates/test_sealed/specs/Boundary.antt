@@ -6,8 +6,7 @@ use Prim.Native.Nat.{ℕ, zero, suc, _*_, _/_}
 use mathlib.Core.Bool.{cond}
 use mathlib.Core.List.{List}
 use lib.ListN.{length, take, drop}
-use Rattle.octets.specs.Lists.{over}
-use Rattle.gcm.specs.Answers.{putOver}
+use Rattle.octets.specs.Lists.{over, putOver}
 use Rattle.transaction.specs.Transaction.{maxText, legal}
 use Rattle.table.specs.declared.Table.{Table}
 use Rattle.table.specs.Table.{entered}

@@ -1,10 +1,10 @@
 -- `test_sealed::sealed_put_file` meets its contract: the text is read as a table, and the table sealed. Assumes nothing.
 use borrow.Author.Tests.{not-true, not-false}
 use lib.ListN.{length}
+use Rattle.octets.specs.Lists.{putOver}
 use Rattle.table.specs.declared.Table.{Table}
 use Rattle.aes.specs.Cipher.{cipher}
 use Rattle.ghash.specs.Multiples.{productBy}
-use Rattle.gcm.specs.Answers.{putOver}
 use Rattle.sealed.specs.Checkpoint.{fileAnswer, filePut, fileBytes}
 use Rattle.sealed.specs.Aead.{gcmBy}
 use Rattle.test_sealed.specs.Boundary.{fileCode, putFileNumber, putFileBuffer}

@@ -1,9 +1,9 @@
 -- `sealed::file::seal_file` meets its contract: where there is room, the table's text is written and put in its frame. Assumes nothing.
 use mathlib.Core.List.{List}
 use lib.ListN.{length, replicate, length-replicate}
+use Rattle.octets.specs.Lists.{putOver}
 use Rattle.aes.specs.Cipher.{cipher}
 use Rattle.ghash.specs.Multiples.{productBy}
-use Rattle.gcm.specs.Answers.{putOver}
 use Rattle.table.proofs.Arrays.{length-of-map}
 use Rattle.sealed.specs.Aead.{gcmBy}
 use Rattle.sealed.proofs.FileLaws.{file-short, file-done, file-put}

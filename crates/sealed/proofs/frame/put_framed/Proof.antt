@@ -3,14 +3,13 @@ use mathlib.Core.Path.{ap₂}
 use Rattle.sealed.proofs.FrameLaws.{put-parts, sealed-front}
 use Rattle.sealed.specs.Frame.{framed}
 use Rattle.sealed.specs.Aead.{gcmBy}
-use Rattle.gcm.specs.Answers.{putOver}
 use Rattle.gcm.specs.Gcm.{sealed}
 use Rattle.ghash.specs.Multiples.{productBy}
 use Rattle.aes.proofs.CounterLaws.{cipher-length}
 use Rattle.aes.specs.Cipher.{cipher}
 use Rattle.octets.proofs.PartLaws.{mid-rest, put-rest}
 use Rattle.octets.specs.Little.{littleBytes}
-use Rattle.octets.specs.Lists.{over}
+use Rattle.octets.specs.Lists.{over, putOver}
 use borrow.Rule.Slice.PartMut.{putMid}
 use lib.Seq.{length-take-le}
 use lib.ListN.{length, take}

@@ -1,6 +1,7 @@
+use Rattle.octets.specs.Lists.{putOver}
 use Rattle.sealed.proofs.FrameLaws.{unframe-not, unframe-opens}
 use Rattle.sealed.specs.Frame.{trailerOf, isSome}
-use Rattle.gcm.specs.Answers.{putOver, textPut}
+use Rattle.gcm.specs.Answers.{textPut}
 use Rattle.ghash.specs.Multiples.{productBy}
 use Rattle.aes.proofs.CounterLaws.{cipher-length}
 use Rattle.aes.specs.Cipher.{cipher}
