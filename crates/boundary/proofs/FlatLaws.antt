@@ -12,6 +12,10 @@ use Rattle.protocol.specs.declared.Phase.{Phase}
 use Rattle.protocol.specs.declared.Phase.the-variants as F
 use Rattle.protocol.specs.declared.Due.{Due}
 use Rattle.protocol.specs.declared.Due.the-variants as D
+use Rattle.protocol.specs.declared.CheckpointStep.the-variants as K
+use Rattle.protocol.specs.declared.TruncateStep.the-variants as L
+use Rattle.protocol.specs.declared.RecoverStep.the-variants as G
+use Rattle.protocol.specs.declared.RecoverNumber.the-variants as M
 use Rattle.boundary.specs.declared.DueNumbers.{DueNumbers}
 use Rattle.boundary.specs.declared.FlatState.{FlatState}
 use Rattle.boundary.specs.Flat.{dueNumbers, dueOf, sameDue, dueKnown, phaseNumber, phaseOf, phaseKnown, knownBy, known, thaw, freeze}
@@ -22,19 +26,19 @@ pub due-back : (d : Due) → dueOf (dueNumbers d) ≡ d
 unfolding dueOf dueNumbers
 due-back D.Nothing = refl
 due-back D.Record = refl
-due-back D.File = refl
-due-back D.Version = refl
-due-back (D.TruncateR l p) = refl
-due-back (D.TruncateDelete p) = refl
-due-back (D.RecoverFile true) = refl
-due-back (D.RecoverFile false) = refl
-due-back (D.RecoverVersion true) = refl
-due-back (D.RecoverVersion false) = refl
-due-back D.RecoverSeal = refl
-due-back (D.RecoverR l) = refl
-due-back D.RecoverEpoch = refl
-due-back (D.RecoverV l) = refl
-due-back D.RecoverEmpty = refl
+due-back (D.Checkpoint K.File) = refl
+due-back (D.Checkpoint K.Version) = refl
+due-back (D.Truncate p (L.R l)) = refl
+due-back (D.Truncate p L.Delete) = refl
+due-back (D.Recover (G.File true)) = refl
+due-back (D.Recover (G.File false)) = refl
+due-back (D.Recover (G.Number (M.S true))) = refl
+due-back (D.Recover (G.Number (M.S false))) = refl
+due-back (D.Recover (G.Number M.N)) = refl
+due-back (D.Recover (G.Number (M.R l))) = refl
+due-back (D.Recover (G.Number M.E)) = refl
+due-back (D.Recover (G.Number (M.V l))) = refl
+due-back (D.Recover G.Empty) = refl
 
 same-self : (a : DueNumbers) → sameDue a a ≡ true
 unfolding sameDue

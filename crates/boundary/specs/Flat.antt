@@ -8,46 +8,49 @@ use Rattle.protocol.specs.declared.Phase.{Phase}
 use Rattle.protocol.specs.declared.Phase.the-variants as F
 use Rattle.protocol.specs.declared.Due.{Due}
 use Rattle.protocol.specs.declared.Due.the-variants as D
+use Rattle.protocol.specs.declared.CheckpointStep.the-variants as K
+use Rattle.protocol.specs.declared.TruncateStep.the-variants as L
+use Rattle.protocol.specs.declared.RecoverStep.the-variants as G
+use Rattle.protocol.specs.declared.RecoverNumber.the-variants as M
 use Rattle.boundary.specs.declared.DueNumbers.{DueNumbers}
 use Rattle.boundary.specs.declared.FlatState.{FlatState}
 
 -- ---- the store that is due
 
--- a kind without position, lane and second
-abbrev pub plain : ℕ → DueNumbers
-plain k = record { position = 0; kind = k; lane = 0; second = 0 }
+abbrev pub numbers : ℕ → ℕ → ℕ → ℕ → DueNumbers
+numbers kind position lane second = record { position = position; kind = kind; lane = lane; second = second }
 
--- the numbers of a due store
+-- the numbers of a due store: its kind, and what it has of a position, a lane and whether it is the second checkpoint's
 unfoldable pub dueNumbers : Due → DueNumbers
-dueNumbers D.Nothing = plain 0
-dueNumbers D.Record = plain 1
-dueNumbers D.File = plain 2
-dueNumbers D.Version = plain 3
-dueNumbers (D.TruncateR l p) = record { position = p; kind = 4; lane = l; second = 0 }
-dueNumbers (D.TruncateDelete p) = record { position = p; kind = 5; lane = 0; second = 0 }
-dueNumbers (D.RecoverFile b) = record { position = 0; kind = 6; lane = 0; second = cond b 1 0 }
-dueNumbers (D.RecoverVersion b) = record { position = 0; kind = 7; lane = 0; second = cond b 1 0 }
-dueNumbers D.RecoverSeal = plain 8
-dueNumbers (D.RecoverR l) = record { position = 0; kind = 9; lane = l; second = 0 }
-dueNumbers D.RecoverEpoch = plain 10
-dueNumbers (D.RecoverV l) = record { position = 0; kind = 11; lane = l; second = 0 }
-dueNumbers D.RecoverEmpty = plain 12
+dueNumbers D.Nothing = numbers 0 0 0 0
+dueNumbers D.Record = numbers 1 0 0 0
+dueNumbers (D.Checkpoint K.File) = numbers 2 0 0 0
+dueNumbers (D.Checkpoint K.Version) = numbers 3 0 0 0
+dueNumbers (D.Truncate position (L.R lane)) = numbers 4 position lane 0
+dueNumbers (D.Truncate position L.Delete) = numbers 5 position 0 0
+dueNumbers (D.Recover (G.File second)) = numbers 6 0 0 (cond second 1 0)
+dueNumbers (D.Recover (G.Number (M.S second))) = numbers 7 0 0 (cond second 1 0)
+dueNumbers (D.Recover (G.Number M.N)) = numbers 8 0 0 0
+dueNumbers (D.Recover (G.Number (M.R lane))) = numbers 9 0 lane 0
+dueNumbers (D.Recover (G.Number M.E)) = numbers 10 0 0 0
+dueNumbers (D.Recover (G.Number (M.V lane))) = numbers 11 0 lane 0
+dueNumbers (D.Recover G.Empty) = numbers 12 0 0 0
 
 -- the due store of these numbers; nothing where the kind is none of 1 to 12
 unfoldable pub dueOf : DueNumbers → Due
 dueOf d =
     cond (eqb (d .kind) 1) D.Record
-    (cond (eqb (d .kind) 2) D.File
-    (cond (eqb (d .kind) 3) D.Version
-    (cond (eqb (d .kind) 4) (D.TruncateR (d .lane) (d .position))
-    (cond (eqb (d .kind) 5) (D.TruncateDelete (d .position))
-    (cond (eqb (d .kind) 6) (D.RecoverFile (eqb (d .second) 1))
-    (cond (eqb (d .kind) 7) (D.RecoverVersion (eqb (d .second) 1))
-    (cond (eqb (d .kind) 8) D.RecoverSeal
-    (cond (eqb (d .kind) 9) (D.RecoverR (d .lane))
-    (cond (eqb (d .kind) 10) D.RecoverEpoch
-    (cond (eqb (d .kind) 11) (D.RecoverV (d .lane))
-    (cond (eqb (d .kind) 12) D.RecoverEmpty D.Nothing)))))))))))
+    (cond (eqb (d .kind) 2) (D.Checkpoint K.File)
+    (cond (eqb (d .kind) 3) (D.Checkpoint K.Version)
+    (cond (eqb (d .kind) 4) (D.Truncate (d .position) (L.R (d .lane)))
+    (cond (eqb (d .kind) 5) (D.Truncate (d .position) L.Delete)
+    (cond (eqb (d .kind) 6) (D.Recover (G.File (eqb (d .second) 1)))
+    (cond (eqb (d .kind) 7) (D.Recover (G.Number (M.S (eqb (d .second) 1))))
+    (cond (eqb (d .kind) 8) (D.Recover (G.Number M.N))
+    (cond (eqb (d .kind) 9) (D.Recover (G.Number (M.R (d .lane))))
+    (cond (eqb (d .kind) 10) (D.Recover (G.Number M.E))
+    (cond (eqb (d .kind) 11) (D.Recover (G.Number (M.V (d .lane))))
+    (cond (eqb (d .kind) 12) (D.Recover G.Empty) D.Nothing)))))))))))
 
 -- the same four numbers
 unfoldable pub sameDue : DueNumbers → DueNumbers → Bool

@@ -8,18 +8,22 @@ ghost use mathlib.Core.Bool.{cond};
 ghost use mathlib.Core.List.{[]};
 ghost use Rattle.octets.specs.Lists.{at};
 ghost use Rattle.protocol.specs.Said.{numberOf, valuesOf, shown, shownAs};
-ghost use Rattle.boundary.specs.Flat.{dueOf, plain, dueNumbers, phaseOf, phaseNumber, knownBy, thaw, freeze};
+ghost use Rattle.boundary.specs.Flat.{dueOf, numbers, dueNumbers, phaseOf, phaseNumber, knownBy, thaw, freeze};
 ghost use Rattle.boundary.specs.Replies.{named, saidOf, replyOf, notAState};
 use protocol::Answer;
+use protocol::CheckpointStep;
 use protocol::Due;
 use protocol::Held;
 use protocol::Journal;
 use protocol::Outcome;
 use protocol::Phase;
 use protocol::Points;
+use protocol::RecoverNumber;
+use protocol::RecoverStep;
 use protocol::Refusal;
 use protocol::State;
 use protocol::Store;
+use protocol::TruncateStep;
 use protocol::Vault;
 use table::Table;
 
@@ -80,63 +84,91 @@ fn bit(b: bool) -> u8
 pub fn due_of(d: DueNumbers) -> Due
     ensures { λ r. ⌜ r ≡ dueOf d ⌝ }
 {
+    let position = d.position;
+    let lane = d.lane;
+    let second = d.second == 1;
     if d.kind == 1 {
         return Due::Record;
     }
     if d.kind == 2 {
-        return Due::File;
+        return Due::Checkpoint {
+            step: CheckpointStep::File,
+        };
     }
     if d.kind == 3 {
-        return Due::Version;
+        return Due::Checkpoint {
+            step: CheckpointStep::Version,
+        };
     }
     if d.kind == 4 {
-        return Due::TruncateR {
-            lane: d.lane,
-            position: d.position,
+        return Due::Truncate {
+            position,
+            step: TruncateStep::R { lane },
         };
     }
     if d.kind == 5 {
-        return Due::TruncateDelete {
-            position: d.position,
+        return Due::Truncate {
+            position,
+            step: TruncateStep::Delete,
         };
     }
     if d.kind == 6 {
-        return Due::RecoverFile {
-            second: d.second == 1,
+        return Due::Recover {
+            step: RecoverStep::File { second },
         };
     }
     if d.kind == 7 {
-        return Due::RecoverVersion {
-            second: d.second == 1,
+        return Due::Recover {
+            step: RecoverStep::Number {
+                number: RecoverNumber::S { second },
+            },
         };
     }
     if d.kind == 8 {
-        return Due::RecoverSeal;
+        return Due::Recover {
+            step: RecoverStep::Number {
+                number: RecoverNumber::N,
+            },
+        };
     }
     if d.kind == 9 {
-        return Due::RecoverR { lane: d.lane };
+        return Due::Recover {
+            step: RecoverStep::Number {
+                number: RecoverNumber::R { lane },
+            },
+        };
     }
     if d.kind == 10 {
-        return Due::RecoverEpoch;
+        return Due::Recover {
+            step: RecoverStep::Number {
+                number: RecoverNumber::E,
+            },
+        };
     }
     if d.kind == 11 {
-        return Due::RecoverV { lane: d.lane };
+        return Due::Recover {
+            step: RecoverStep::Number {
+                number: RecoverNumber::V { lane },
+            },
+        };
     }
     if d.kind == 12 {
-        return Due::RecoverEmpty;
+        return Due::Recover {
+            step: RecoverStep::Empty,
+        };
     }
     Due::Nothing
 }
 
-// The numbers of a kind that has none of the other fields.
-fn plain(kind: u8) -> DueNumbers
-    ensures { λ r. ⌜ r ≡ plain kind ⌝ }
+// The numbers of a kind, with what it has of the other fields.
+fn numbers(kind: u8, position: u64, lane: u8, second: u8) -> DueNumbers
+    ensures { λ r. ⌜ r ≡ numbers kind position lane second ⌝ }
 {
     DueNumbers {
-        position: 0,
+        position,
         kind,
-        lane: 0,
-        second: 0,
+        lane,
+        second,
     }
 }
 
@@ -145,49 +177,33 @@ pub fn due_numbers(d: Due) -> DueNumbers
     ensures { λ r. ⌜ r ≡ dueNumbers d ⌝ }
 {
     match d {
-        Due::Nothing => plain(0),
-        Due::Record => plain(1),
-        Due::File => plain(2),
-        Due::Version => plain(3),
-        Due::TruncateR { lane, position } => DueNumbers {
-            position,
-            kind: 4,
-            lane,
-            second: 0,
+        Due::Nothing => numbers(0, 0, 0, 0),
+        Due::Record => numbers(1, 0, 0, 0),
+        Due::Checkpoint { step } => match step {
+            CheckpointStep::File => numbers(2, 0, 0, 0),
+            CheckpointStep::Version => numbers(3, 0, 0, 0),
         },
-        Due::TruncateDelete { position } => DueNumbers {
-            position,
-            kind: 5,
-            lane: 0,
-            second: 0,
+        Due::Truncate { position, step } => match step {
+            TruncateStep::R { lane } => numbers(4, position, lane, 0),
+            TruncateStep::Delete => numbers(5, position, 0, 0),
         },
-        Due::RecoverFile { second } => DueNumbers {
-            position: 0,
-            kind: 6,
-            lane: 0,
-            second: bit(second),
+        Due::Recover { step } => match step {
+            RecoverStep::File { second } => {
+                let s = bit(second);
+                numbers(6, 0, 0, s)
+            }
+            RecoverStep::Number { number } => match number {
+                RecoverNumber::S { second } => {
+                    let s = bit(second);
+                    numbers(7, 0, 0, s)
+                }
+                RecoverNumber::N => numbers(8, 0, 0, 0),
+                RecoverNumber::R { lane } => numbers(9, 0, lane, 0),
+                RecoverNumber::E => numbers(10, 0, 0, 0),
+                RecoverNumber::V { lane } => numbers(11, 0, lane, 0),
+            },
+            RecoverStep::Empty => numbers(12, 0, 0, 0),
         },
-        Due::RecoverVersion { second } => DueNumbers {
-            position: 0,
-            kind: 7,
-            lane: 0,
-            second: bit(second),
-        },
-        Due::RecoverSeal => plain(8),
-        Due::RecoverR { lane } => DueNumbers {
-            position: 0,
-            kind: 9,
-            lane,
-            second: 0,
-        },
-        Due::RecoverEpoch => plain(10),
-        Due::RecoverV { lane } => DueNumbers {
-            position: 0,
-            kind: 11,
-            lane,
-            second: 0,
-        },
-        Due::RecoverEmpty => plain(12),
     }
 }
 

@@ -8,42 +8,39 @@ use borrow.Author.Tests.{le-leb, lt-leb, not-true, not-false}
 use lib.Dec.{leb}
 use lib.ListN.{length}
 use Rattle.octets.specs.Lists.{putOver}
-use Rattle.octets.proofs.BoolLaws.{or-right}
 use Rattle.protocol.specs.Vaults.{counterMax}
-use Rattle.protocol.specs.States.{valid, serving}
-use Rattle.protocol.specs.Said.{Answered, refuse, numberOf, valuesOf, shown, shownAs}
-use Rattle.protocol.specs.Checkpoint.{coveredPoints, checkpointed, checkpointDue, checkpoint}
+use Rattle.protocol.specs.States.{valid, serving, validBy}
+use Rattle.protocol.specs.Said.{Answered, refuse, refusing, numberOf, valuesOf, shown, shownAs, refusedWith}
+use Rattle.protocol.specs.Steps.{standsIf, raiseS, raiseN, stepped}
+use Rattle.protocol.specs.Checkpoint.{coveredPoints, checkpointed, checkpointFirst, checkpointLast, checkpointDue, checkpoint}
 use Rattle.protocol.specs.declared.Points.{Points}
 use Rattle.protocol.specs.declared.State.{State}
 use Rattle.protocol.specs.declared.Due.{Due}
 use Rattle.protocol.specs.declared.Due.the-variants as D
+use Rattle.protocol.specs.declared.CheckpointStep.the-variants as K
+use Rattle.protocol.specs.declared.Step.{Step}
 use Rattle.protocol.specs.declared.Refusal.the-variants as R
 use Rattle.protocol.specs.declared.Answer.{Answer}
-use Rattle.state.specs.Parts.{validBy, refusedWith}
-use Rattle.checkpoint_steps.specs.Steps.{sealStep, fileStep, versionStep}
-use Rattle.checkpointing.specs.declared.Part.{Part}
-use Rattle.checkpointing.specs.declared.Part.the-variants as P
-use Rattle.checkpointing.specs.Parts.{partOf, firstCall, lastCall, callOf}
 
 -- ---- the first and the last call
 
 module _ (c : State) where
-  pub first-spent : (leb counterMax (c .vault .s) || leb counterMax (c .vault .n)) ≡ true → shownAs (refusedWith c R.Spent) [] ≡ firstCall c
-  unfolding shownAs shown numberOf valuesOf firstCall refuse
+  pub first-spent : (leb counterMax (c .vault .s) || leb counterMax (c .vault .n)) ≡ true → shownAs (refusedWith c R.Spent) [] ≡ checkpointFirst c
+  unfolding shownAs shown numberOf valuesOf checkpointFirst refuse
   first-spent h = rw h
 
-  pub first-taken : (leb counterMax (c .vault .s) || leb counterMax (c .vault .n)) ≡ false → sealStep c D.File ≡ firstCall c
-  unfolding firstCall sealStep refuse
-  first-taken h = rw (h, or-right (leb counterMax (c .vault .s)) (leb counterMax (c .vault .n)) h)
+  pub first-taken : (leb counterMax (c .vault .s) || leb counterMax (c .vault .n)) ≡ false → {s : Step} → s ≡ raiseN (c .vault) (D.Checkpoint K.File) → stepped c s ≡ checkpointFirst c
+  unfolding checkpointFirst refuse
+  first-taken h e = rw (h, e)
 
-  pub last-spent : counterMax ≤ c .vault .s → shownAs (refusedWith c R.Condition) [] ≡ lastCall c
-  unfolding shownAs shown numberOf valuesOf lastCall refuse
+  pub last-spent : counterMax ≤ c .vault .s → shownAs (refusedWith c R.Condition) [] ≡ checkpointLast c
+  unfolding shownAs shown numberOf valuesOf checkpointLast refuse
   last-spent h = rw (le-leb counterMax (c .vault .s) h)
 
-  pub last-taken : c .vault .s < counterMax → (p : Points) → p ≡ coveredPoints (c .points)
-      → versionStep (record { vault = c .vault; phase = c .phase; due = c .due; table = c .table; journal = c .journal; points = p; held = c .held; key = c .key }) D.Nothing ≡ lastCall c
-  unfolding lastCall versionStep checkpointed refuse
-  last-taken h p e = rw (lt-leb counterMax (c .vault .s) h, e)
+  pub last-taken : c .vault .s < counterMax → (p : Points) → p ≡ coveredPoints (c .points) → {s : Step} → s ≡ raiseS (c .vault) D.Nothing
+      → stepped (record { vault = c .vault; phase = c .phase; due = c .due; table = c .table; journal = c .journal; points = p; held = c .held; key = c .key }) s ≡ checkpointLast c
+  unfolding checkpointLast raiseS standsIf stepped checkpointed refuse
+  last-taken h p e es = rw (es, lt-leb counterMax (c .vault .s) h, e)
 
 -- ---- the whole
 
@@ -53,22 +50,6 @@ unfolding shownAs
 puts-none o r a e =
     let n : [] ≡ a .put = ap (λ (b : Answered). b .put) e in
     (ap (shownAs r) (sym n) ∙ e, ap (λ (p : List ℕ). putOver p o) n)
-
-by-part : (c : State) (room : ℕ) (due : Due) → callOf c room (partOf due) ≡ checkpointDue c room due
-unfolding callOf firstCall lastCall fileStep checkpointDue
-by-part c room D.Nothing = refl
-by-part c room D.Record = refl
-by-part c room D.File = refl
-by-part c room D.Version = refl
-by-part c room (D.TruncateR l p) = refl
-by-part c room (D.TruncateDelete p) = refl
-by-part c room (D.RecoverFile b) = refl
-by-part c room (D.RecoverVersion b) = refl
-by-part c room D.RecoverSeal = refl
-by-part c room (D.RecoverR l) = refl
-by-part c room D.RecoverEpoch = refl
-by-part c room (D.RecoverV l) = refl
-by-part c room D.RecoverEmpty = refl
 
 -- o is the buffer, q whether the state is valid, w whether it is in service
 module _ (c : State) (o : List ℕ) (q w : Bool) (eq : q ≡ validBy (c .vault) (c .journal .count) (c .points .count)) (ew : w ≡ serving (c .phase)) where
@@ -81,31 +62,21 @@ module _ (c : State) (o : List ℕ) (q w : Bool) (eq : q ≡ validBy (c .vault) 
   unfolding shownAs shown numberOf valuesOf checkpoint refuse
   checkpoint-condition h r er = puts-none o r (checkpoint c (length o)) (rw (er, sym tested, not-true (q && w) h))
 
-  module _ (good : not (q && w) ≡ false) (part : Part) (ep : part ≡ partOf (c .due)) where
-    checkpoint-call : callOf c (length o) part ≡ checkpoint c (length o)
+  module _ (good : not (q && w) ≡ false) {d : Due} (told : c .due ≡ d) (r : Answer) where
+    call-is : checkpointDue c (length o) d ≡ checkpoint c (length o)
     unfolding checkpoint refuse
-    checkpoint-call = rw (sym tested, not-false (q && w) good, ep) (by-part c (length o) (c .due))
+    call-is = rw (sym tested, not-false (q && w) good, told)
 
-    module _ (r : Answer) where
-      pub checkpoint-first : part ≡ P.Seal → shownAs r [] ≡ firstCall c
-          → (shownAs r (checkpoint c (length o) .put) ≡ checkpoint c (length o)) × (o ≡ putOver (checkpoint c (length o) .put) o)
-      unfolding callOf
-      checkpoint-first k e = puts-none o r (checkpoint c (length o)) (e ∙ ap (callOf c (length o)) (sym k) ∙ checkpoint-call)
+    -- a call that puts nothing out
+    pub checkpoint-quiet : shownAs r [] ≡ checkpointDue c (length o) d → (shownAs r (checkpoint c (length o) .put) ≡ checkpoint c (length o)) × (o ≡ putOver (checkpoint c (length o) .put) o)
+    checkpoint-quiet e = puts-none o r (checkpoint c (length o)) (e ∙ call-is)
 
-      pub checkpoint-last : part ≡ P.Version → shownAs r [] ≡ lastCall c
-          → (shownAs r (checkpoint c (length o) .put) ≡ checkpoint c (length o)) × (o ≡ putOver (checkpoint c (length o) .put) o)
-      unfolding callOf
-      checkpoint-last k e = puts-none o r (checkpoint c (length o)) (e ∙ ap (callOf c (length o)) (sym k) ∙ checkpoint-call)
+    -- one that is turned down
+    pub checkpoint-other : r ≡ refusedWith c R.Condition → refusing c 1 [] ≡ checkpointDue c (length o) d → (shownAs r (checkpoint c (length o) .put) ≡ checkpoint c (length o)) × (o ≡ putOver (checkpoint c (length o) .put) o)
+    unfolding shownAs shown numberOf valuesOf
+    checkpoint-other er e = checkpoint-quiet (rw er e)
 
-      pub checkpoint-other : part ≡ P.None → r ≡ refusedWith c R.Condition
-          → (shownAs r (checkpoint c (length o) .put) ≡ checkpoint c (length o)) × (o ≡ putOver (checkpoint c (length o) .put) o)
-      unfolding callOf shownAs shown numberOf valuesOf
-      checkpoint-other k er = puts-none o r (checkpoint c (length o)) (rw er (ap (callOf c (length o)) (sym k) ∙ checkpoint-call))
-
-      -- b is the buffer behind it
-      pub checkpoint-file : part ≡ P.File → (b : List ℕ) → (shownAs r (fileStep c (length o) D.Version .put) ≡ fileStep c (length o) D.Version) × (b ≡ putOver (fileStep c (length o) D.Version .put) o)
-          → (shownAs r (checkpoint c (length o) .put) ≡ checkpoint c (length o)) × (b ≡ putOver (checkpoint c (length o) .put) o)
-      unfolding callOf
-      checkpoint-file k b e =
-          let s : fileStep c (length o) D.Version ≡ checkpoint c (length o) = ap (callOf c (length o)) (sym k) ∙ checkpoint-call in
-          rw (← s) e
+    -- b is the buffer behind it
+    pub checkpoint-puts : (b : List ℕ) → (shownAs r (checkpointDue c (length o) d .put) ≡ checkpointDue c (length o) d) × (b ≡ putOver (checkpointDue c (length o) d .put) o)
+        → (shownAs r (checkpoint c (length o) .put) ≡ checkpoint c (length o)) × (b ≡ putOver (checkpoint c (length o) .put) o)
+    checkpoint-puts b e = rw (← call-is) e

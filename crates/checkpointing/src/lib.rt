@@ -5,57 +5,32 @@ ghost use mathlib.Core.List.{[]};
 ghost use lib.ListN.{length};
 ghost use Rattle.octets.specs.Lists.{putOver};
 ghost use Rattle.protocol.specs.Said.{shownAs};
-ghost use Rattle.protocol.specs.Checkpoint.{checkpoint};
-ghost use Rattle.checkpointing.specs.Parts.{partOf, firstCall, lastCall};
+ghost use Rattle.protocol.specs.Checkpoint.{checkpointFirst, checkpointLast, checkpoint};
 use protocol::Answer;
+use protocol::CheckpointStep;
 use protocol::Due;
 use protocol::Refusal;
 use protocol::State;
 use vault::COUNTER_MAX;
 
-// The calls of a Checkpoint: the one that names N, the one that puts the file out, the one that names S, and none.
-enum Part {
-    Seal,
-    File,
-    Version,
-    None,
-}
-
-// The call that a Checkpoint makes while this store is due.
-fn part_of(due: Due) -> Part
-    ensures { λ r. ⌜ r ≡ partOf due ⌝ }
-{
-    match due {
-        Due::Nothing => Part::Seal,
-        Due::Record => Part::None,
-        Due::File => Part::File,
-        Due::Version => Part::Version,
-        Due::TruncateR { lane, position } => Part::None,
-        Due::TruncateDelete { position } => Part::None,
-        Due::RecoverFile { second } => Part::None,
-        Due::RecoverVersion { second } => Part::None,
-        Due::RecoverSeal => Part::None,
-        Due::RecoverR { lane } => Part::None,
-        Due::RecoverEpoch => Part::None,
-        Due::RecoverV { lane } => Part::None,
-        Due::RecoverEmpty => Part::None,
-    }
-}
-
 // The call that names N. It refuses an S or N at the maximum (8).
 fn first_call(c: State) -> Answer
-    ensures { λ r. ⌜ shownAs r [] ≡ firstCall c ⌝ }
+    ensures { λ r. ⌜ shownAs r [] ≡ checkpointFirst c ⌝ }
 {
     let x = c.vault;
     if (COUNTER_MAX <= x.s) | (COUNTER_MAX <= x.n) {
         return state::refused(c, Refusal::Spent);
     }
-    checkpoint_steps::seal_step(c, Due::File)
+    let next = Due::Checkpoint {
+        step: CheckpointStep::File,
+    };
+    let step = steps::raise_n(x, next);
+    steps::stepped(c, step)
 }
 
 // The call that names S, behind which the points are covered. It refuses an S at the maximum (1).
 fn last_call(c: State) -> Answer
-    ensures { λ r. ⌜ shownAs r [] ≡ lastCall c ⌝ }
+    ensures { λ r. ⌜ shownAs r [] ≡ checkpointLast c ⌝ }
 {
     let x = c.vault;
     if COUNTER_MAX <= x.s {
@@ -65,7 +40,8 @@ fn last_call(c: State) -> Answer
     let points = journal::points::covered_points(p);
     let mut next = c;
     next.points = points;
-    checkpoint_steps::version_step(next, Due::Nothing)
+    let step = steps::raise_s(x, Due::Nothing);
+    steps::stepped(next, step)
 }
 
 // Checkpoint: names N, puts the file out, names S, a call each. It refuses a state that is not valid and in service,
@@ -83,11 +59,19 @@ pub fn checkpoint(c: State, out: &mut [u8]) -> Answer
     if !(fine & on) {
         return state::refused(c, Refusal::Condition);
     }
-    let part = part_of(due);
-    match part {
-        Part::Seal => first_call(c),
-        Part::File => checkpoint_steps::file_step(c, Due::Version, out),
-        Part::Version => last_call(c),
-        Part::None => state::refused(c, Refusal::Condition),
+    match due {
+        Due::Nothing => first_call(c),
+        Due::Checkpoint { step } => match step {
+            CheckpointStep::File => {
+                let next = Due::Checkpoint {
+                    step: CheckpointStep::Version,
+                };
+                steps::file_step(c, next, out)
+            }
+            CheckpointStep::Version => last_call(c),
+        },
+        Due::Record => state::refused(c, Refusal::Condition),
+        Due::Truncate { position, step } => state::refused(c, Refusal::Condition),
+        Due::Recover { step } => state::refused(c, Refusal::Condition),
     }
 }

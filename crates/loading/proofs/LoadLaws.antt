@@ -8,9 +8,8 @@ use lib.ListN.{length, replicate}
 use borrow.Author.Tests.{eq-eqb, ne-eqb}
 use Rattle.octets.specs.Lists.{over}
 use Rattle.octets.proofs.CopyLaws.{over-whole}
-use Rattle.state.specs.Parts.{refusedWith, takenWith}
 use Rattle.protocol.specs.Vaults.{vaultOk}
-use Rattle.protocol.specs.Said.{refuse, shownAs, shown, numberOf, valuesOf}
+use Rattle.protocol.specs.Said.{refuse, shownAs, shown, numberOf, valuesOf, refusedWith, takenWith}
 use Rattle.protocol.specs.Load.{loaded, blank, load}
 use Rattle.protocol.specs.declared.Vault.{Vault}
 use Rattle.protocol.specs.declared.Store.the-variants as S

@@ -6,8 +6,8 @@ use mathlib.Core.Bool.{Bool, true, false, not, _&&_}
 use mathlib.Core.List.{List, []}
 use lib.Dec.{leb}
 use borrow.Author.Tests.{le-leb, lt-leb}
-use Rattle.protocol.specs.States.{pointsMax, valid, ready}
-use Rattle.protocol.specs.Said.{refuse, shownAs, shown, numberOf, valuesOf}
+use Rattle.protocol.specs.States.{pointsMax, valid, ready, readyBy}
+use Rattle.protocol.specs.Said.{refuse, shownAs, shown, numberOf, valuesOf, refusedWith, takenWith}
 use Rattle.protocol.specs.Point.{marksOf, marksFrom, unseenBelow, journalOf, countsAt, pointAt, pointed, point}
 use Rattle.protocol.specs.declared.Journal.{Journal}
 use Rattle.protocol.specs.declared.Points.{Points}
@@ -17,7 +17,6 @@ use Rattle.protocol.specs.declared.Refusal.the-variants as R
 use Rattle.protocol.specs.declared.Answer.{Answer}
 use Rattle.journal.specs.Beyond.{pointsIf}
 use Rattle.journal.proofs.BeyondLaws.{points-room}
-use Rattle.state.specs.Parts.{readyBy, refusedWith, takenWith}
 
 -- the test over the parts of a state
 abbrev pub readyParts : State → Bool

@@ -46,6 +46,14 @@ use Rattle.protocol.specs.declared.Phase.{Phase}
 use Rattle.protocol.specs.declared.Phase.the-variants as F
 use Rattle.protocol.specs.declared.Due.{Due}
 use Rattle.protocol.specs.declared.Due.the-variants as D
+use Rattle.protocol.specs.declared.CheckpointStep.{CheckpointStep}
+use Rattle.protocol.specs.declared.CheckpointStep.the-variants as K
+use Rattle.protocol.specs.declared.TruncateStep.{TruncateStep}
+use Rattle.protocol.specs.declared.TruncateStep.the-variants as L
+use Rattle.protocol.specs.declared.RecoverStep.{RecoverStep}
+use Rattle.protocol.specs.declared.RecoverStep.the-variants as G
+use Rattle.protocol.specs.declared.RecoverNumber.{RecoverNumber}
+use Rattle.protocol.specs.declared.RecoverNumber.the-variants as M
 use Rattle.protocol.specs.declared.Store.{Store}
 use Rattle.protocol.specs.declared.Store.the-variants as S
 use Rattle.protocol.proofs.VaultLaws.{LaneFine}
@@ -202,20 +210,24 @@ pub record Raising (x : Vault) (d : Durable) (rl vl el : ℕ) : Type 0 where
   pub e-room : x .e + el ≤ counterMax
 
 -- by the store that is due
+abbrev pub RecoverNumberDue : Vault → Durable → RecoverNumber → Type 0
+RecoverNumberDue x d (M.S second) = Ahead x (checkpointsLeft second) (pred (checkpointsLeft second)) 1 × HasNext (x .s) (d .cards)
+RecoverNumberDue x d M.N = Ahead x 1 1 1
+RecoverNumberDue x d (M.R l) = (l < lanes) × Raising x d l 0 1
+RecoverNumberDue x d M.E = Raising x d lanes 0 1
+RecoverNumberDue x d (M.V l) = (l < lanes) × Raising x d lanes l 0
+
+abbrev pub RecoverStepDue : Vault → Durable → RecoverStep → Type 0
+RecoverStepDue x d (G.File second) = Ahead x (checkpointsLeft second) (pred (checkpointsLeft second)) 1
+RecoverStepDue x d (G.Number number) = RecoverNumberDue x d number
+RecoverStepDue x d G.Empty = Raising x d lanes lanes 0
+
 abbrev pub RecoverDue : Vault → Durable → Due → Type 0
 RecoverDue x d D.Nothing = ⊥
 RecoverDue x d D.Record = ⊥
-RecoverDue x d D.File = ⊥
-RecoverDue x d D.Version = ⊥
-RecoverDue x d (D.TruncateR l p) = ⊥
-RecoverDue x d (D.TruncateDelete p) = ⊥
-RecoverDue x d (D.RecoverFile second) = Ahead x (checkpointsLeft second) (pred (checkpointsLeft second)) 1
-RecoverDue x d (D.RecoverVersion second) = Ahead x (checkpointsLeft second) (pred (checkpointsLeft second)) 1 × HasNext (x .s) (d .cards)
-RecoverDue x d D.RecoverSeal = Ahead x 1 1 1
-RecoverDue x d (D.RecoverR l) = (l < lanes) × Raising x d l 0 1
-RecoverDue x d D.RecoverEpoch = Raising x d lanes 0 1
-RecoverDue x d (D.RecoverV l) = (l < lanes) × Raising x d lanes l 0
-RecoverDue x d D.RecoverEmpty = Raising x d lanes lanes 0
+RecoverDue x d (D.Checkpoint step) = ⊥
+RecoverDue x d (D.Truncate position step) = ⊥
+RecoverDue x d (D.Recover step) = RecoverStepDue x d step
 
 -- ---- (10): in service
 
@@ -274,17 +286,9 @@ heldSpot c = record { position = c .held .position; rec = record { lane = c .hel
 abbrev pub spotsAt : State → Durable → Due → List Spot
 spotsAt c d D.Nothing = d .spots
 spotsAt c d D.Record = d .spots ++ (heldSpot c ∷ [])
-spotsAt c d D.File = d .spots
-spotsAt c d D.Version = d .spots
-spotsAt c d (D.TruncateR l p) = d .spots
-spotsAt c d (D.TruncateDelete p) = d .spots
-spotsAt c d (D.RecoverFile b) = d .spots
-spotsAt c d (D.RecoverVersion b) = d .spots
-spotsAt c d D.RecoverSeal = d .spots
-spotsAt c d (D.RecoverR l) = d .spots
-spotsAt c d D.RecoverEpoch = d .spots
-spotsAt c d (D.RecoverV l) = d .spots
-spotsAt c d D.RecoverEmpty = d .spots
+spotsAt c d (D.Checkpoint step) = d .spots
+spotsAt c d (D.Truncate position step) = d .spots
+spotsAt c d (D.Recover step) = d .spots
 
 -- a record is due
 pub record Holding (c : State) (d : Durable) : Type 0 where
@@ -304,20 +308,20 @@ pub record Cutting (c : State) (d : Durable) (j position : ℕ) : Type 0 where
   pub did : (l : ℕ) → l < j → at (c .vault .r) l ≡ at (at-point .counts) l
   pub left : (l : ℕ) → j ≤ l → at (c .vault .r) l + cnt l (d .spots) ≡ at (c .vault .w) l
 
+abbrev pub CheckpointDue : State → Durable → CheckpointStep → Type 0
+CheckpointDue c d K.File = Stale (c .vault .s) (d .files) × Exact (c .vault) (d .spots) × (c .vault .s + 1 ≤ counterMax)
+CheckpointDue c d K.Version = Exact (c .vault) (d .spots) × (c .vault .s + 1 ≤ counterMax) × HasNext (c .vault .s) (d .cards)
+
+abbrev pub TruncateDue : State → Durable → ℕ → TruncateStep → Type 0
+TruncateDue c d position (L.R j) = Cutting c d j position
+TruncateDue c d position L.Delete = Cutting c d lanes position
+
 abbrev pub ServiceDue : State → Durable → Due → Type 0
 ServiceDue c d D.Nothing = Stale (c .vault .s) (d .files) × Exact (c .vault) (d .spots)
 ServiceDue c d D.Record = Holding c d
-ServiceDue c d D.File = Stale (c .vault .s) (d .files) × Exact (c .vault) (d .spots) × (c .vault .s + 1 ≤ counterMax)
-ServiceDue c d D.Version = Exact (c .vault) (d .spots) × (c .vault .s + 1 ≤ counterMax) × HasNext (c .vault .s) (d .cards)
-ServiceDue c d (D.TruncateR j position) = Cutting c d j position
-ServiceDue c d (D.TruncateDelete position) = Cutting c d lanes position
-ServiceDue c d (D.RecoverFile b) = ⊥
-ServiceDue c d (D.RecoverVersion b) = ⊥
-ServiceDue c d D.RecoverSeal = ⊥
-ServiceDue c d (D.RecoverR l) = ⊥
-ServiceDue c d D.RecoverEpoch = ⊥
-ServiceDue c d (D.RecoverV l) = ⊥
-ServiceDue c d D.RecoverEmpty = ⊥
+ServiceDue c d (D.Checkpoint step) = CheckpointDue c d step
+ServiceDue c d (D.Truncate position step) = TruncateDue c d position step
+ServiceDue c d (D.Recover step) = ⊥
 
 -- ---- (7) to (10): the state, under the one key
 

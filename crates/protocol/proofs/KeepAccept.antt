@@ -126,7 +126,7 @@ module _ (key : List ℕ) where
 
   pub keep-accept : (c : State) (d : Durable) (text : List ℕ) (lane pos : ℕ) → Durably (At c d) → LinkedAt key c (At c d) (c .phase) (c .due) → ((i : ℕ) → at text i < 256) → GoodAnswer key (At c d) none (accept c text lane pos)
   unfolding tooLow
-  keep-accept c d text lane pos i k bytes = walk-accept (GoodAnswer key (At c d) none) c (λ n vs. tt) text lane pos (λ r t l p m w.
+  keep-accept c d text lane pos i k bytes = walk-accept (GoodAnswer key (At c d) none) c (λ n vs k. tt) text lane pos (λ r t l p m w.
       let s = when-ready key c (At c d) k r in (
         quiet,
         accept-good c d text lane pos i (s .0) (s .2) t bytes l
@@ -170,7 +170,7 @@ module _ (key : List ℕ) where
       kn p (inr m) = List·Memᴰ·head (ap (λ (x : Spot). x .rec) (List·Memᴰ·eq-of-singleton m))
 
   pub keep-seal : (c : State) (d : Durable) (room : ℕ) → Durably (At c d) → LinkedAt key c (At c d) (c .phase) (c .due) → GoodAnswer key (At c d) none (seal c room)
-  unfolding seal holds
+  unfolding seal holds valid
   keep-seal c d room i k =
       good-refuse key _ none _ c 1 [] _ (λ r.
       let a = not-false _ r in

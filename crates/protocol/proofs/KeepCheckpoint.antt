@@ -15,20 +15,23 @@ use Rattle.sealed.specs.Checkpoint.{OpenedFile}
 use Rattle.protocol.specs.Vaults.{counterMax, setN}
 use Rattle.protocol.specs.States.{withVault}
 use Rattle.protocol.specs.Point.{marksOf}
-use Rattle.protocol.specs.Checkpoint.{tableFile, coveredPoint, coveredPoints, checkpointed, checkpointDue, checkpoint}
+use Rattle.protocol.specs.Steps.{raiseN, tableFile, fileStep}
+use Rattle.protocol.specs.Checkpoint.{coveredPoint, coveredPoints, checkpointed, checkpointFirst, checkpointLast, checkpointStep, checkpointDue, checkpoint}
 use Rattle.protocol.specs.Truncate.{pointsOf}
 use Rattle.protocol.specs.declared.Point.{Point}
 use Rattle.protocol.specs.declared.State.{State}
 use Rattle.protocol.specs.declared.Phase.the-variants as F
 use Rattle.protocol.specs.declared.Due.{Due}
 use Rattle.protocol.specs.declared.Due.the-variants as D
+use Rattle.protocol.specs.declared.CheckpointStep.{CheckpointStep}
+use Rattle.protocol.specs.declared.CheckpointStep.the-variants as K
 use Rattle.protocol.specs.declared.Store.the-variants as S
 use Rattle.protocol.proofs.Latest.{Upto, full-upto}
 use Rattle.protocol.proofs.Card.{Spot}
 use Rattle.protocol.proofs.Listed.{covered-points}
 use Rattle.protocol.proofs.Invariant.{Durable, quiet, outFile, FileIn, Durably, Service, Serving, PointOk, Crowd, Ascending, LinkedAt, Good, GoodAnswer, At, floorOf, nextOf}
 use Rattle.protocol.proofs.StoreLaws.{files-s, kept-s}
-use Rattle.protocol.proofs.KeepRecover.{good-refuse, nextFile, file-is, file-now, file-then, has-next}
+use Rattle.protocol.proofs.KeepRecover.{good-refuse, good-step, nextFile, file-is, file-now, file-then, has-next}
 use Rattle.protocol.proofs.Phases.{link-serving, when-serving}
 
 -- the points after a checkpoint
@@ -53,22 +56,22 @@ cover-crowd cs m (p ∷ ps) k = (let a = k .0 in let b = length-map ps coveredPo
 
 module _ (key : List ℕ) where
   check-N : (c : State) (d : Durable) → Durably (At c d) → c .phase ≡ F.Serving → Service key c (At c d) D.Nothing → c .vault .s < counterMax → c .vault .n < counterMax
-      → Good key (withVault c (setN (c .vault) (suc (c .vault .n))) D.File) (S.N (suc (c .vault .n))) [] none (At c d) quiet
+      → Good key (withVault c (setN (c .vault) (suc (c .vault .n))) (D.Checkpoint K.File)) (S.N (suc (c .vault .n))) [] none (At c d) quiet
   check-N c d i e s ts tn = record {
     puts = tt;
     rises = omega arith;
     now = i;
     then = record { lanes = i .lanes; nums = record { e≤ = i .nums .e≤; s≤ = i .nums .s≤; n≤ = tn }; sealed = i .sealed; book = i .book; files = i .files; card = i .card; kept = i .kept };
-    link = link-serving key c (withVault c (setN (c .vault) (suc (c .vault .n))) D.File) _ e refl refl (record { key-is = s .key-is; arrays = s .arrays; table = s .table; common = s .common; stored = (s .stored .0, s .stored .1, omega arith) });
+    link = link-serving key c (withVault c (setN (c .vault) (suc (c .vault .n))) (D.Checkpoint K.File)) _ e refl refl (record { key-is = s .key-is; arrays = s .arrays; table = s .table; common = s .common; stored = (s .stored .0, s .stored .1, omega arith) });
   }
 
-  check-file : (c : State) (d : Durable) → Durably (At c d) → c .phase ≡ F.Serving → Service key c (At c d) D.File → Good key (withVault c (c .vault) D.Version) S.File (tableFile c) none (At c d) (outFile (nextFile key c))
+  check-file : (c : State) (d : Durable) → Durably (At c d) → c .phase ≡ F.Serving → Service key c (At c d) (D.Checkpoint K.File) → Good key (withVault c (c .vault) (D.Checkpoint K.Version)) S.File (tableFile c) none (At c d) (outFile (nextFile key c))
   check-file c d i e s = let sv = s .common in record {
     puts = (refl, file-is key c (s .key-is));
     rises = tt;
     now = file-now key c d i (s .table) (s .stored .2);
     then = file-then key c d i (s .table) (s .stored .2);
-    link = link-serving key c (withVault c (c .vault) D.Version) _ e refl refl (record {
+    link = link-serving key c (withVault c (c .vault) (D.Checkpoint K.Version)) _ e refl refl (record {
       key-is = s .key-is;
       arrays = s .arrays;
       table = s .table;
@@ -95,7 +98,7 @@ module _ (key : List ℕ) where
       old p h f v (inl q) = let z = ap (λ (x : OpenedFile). x .version) q in absurd (omega arith)
       old p h f v (inr m) = h f m v
 
-  check-S : (c : State) (d : Durable) → Durably (At c d) → c .phase ≡ F.Serving → Service key c (At c d) D.Version → Good key (checkpointed c) (S.S (suc (c .vault .s))) [] none (At c d) quiet
+  check-S : (c : State) (d : Durable) → Durably (At c d) → c .phase ≡ F.Serving → Service key c (At c d) (D.Checkpoint K.Version) → Good key (checkpointed c) (S.S (suc (c .vault .s))) [] none (At c d) quiet
   unfolding checkpointed coveredPoints
   check-S c d i e s = let sv = s .common in let ar = s .arrays in let ps = pointsOf (c .points) in let pk : pointsOf (checkpointed c .points) ≡ map coveredPoint ps = covered-points (c .points) in record {
     puts = tt;
@@ -133,22 +136,19 @@ module _ (key : List ℕ) where
         under = let a = o .under in omega arith;
       }
 
+  keep-step : (c : State) (d : Durable) (room : ℕ) (step : CheckpointStep) → Durably (At c d) → c .phase ≡ F.Serving → Service key c (At c d) (D.Checkpoint step) → GoodAnswer key (At c d) none (checkpointStep c room step)
+  unfolding checkpointStep checkpointLast fileStep
+  keep-step c d room K.File i e s = good-refuse key _ none _ c 1 [] _ (λ _. good-refuse key _ none _ c 3 _ _ (λ _. (outFile (nextFile key c), check-file c d i e s)))
+  keep-step c d room K.Version i e s = good-refuse key _ none _ c 1 [] _ (λ _. (quiet, check-S c d i e s))
+
   keep-check : (c : State) (d : Durable) (room : ℕ) (du : Due) → Durably (At c d) → c .phase ≡ F.Serving → Service key c (At c d) du → GoodAnswer key (At c d) none (checkpointDue c room du)
-  unfolding checkpointDue
-  keep-check c d room D.Nothing i e s = good-refuse key _ none (leb counterMax (c .vault .s) || leb counterMax (c .vault .n)) c 8 [] _ (λ r.
-      (quiet, check-N c d i e s (leb-false counterMax (c .vault .s) (or-left (leb counterMax (c .vault .s)) (leb counterMax (c .vault .n)) r)) (leb-false counterMax (c .vault .n) (or-right (leb counterMax (c .vault .s)) (leb counterMax (c .vault .n)) r))))
-  keep-check c d room D.File i e s = good-refuse key _ none _ c 1 [] _ (λ _. good-refuse key _ none _ c 3 _ _ (λ _. (outFile (nextFile key c), check-file c d i e s)))
-  keep-check c d room D.Version i e s = good-refuse key _ none _ c 1 [] _ (λ _. (quiet, check-S c d i e s))
+  unfolding checkpointDue checkpointFirst raiseN
+  keep-check c d room D.Nothing i e s = good-refuse key _ none (leb counterMax (c .vault .s) || leb counterMax (c .vault .n)) c 8 [] _ (λ r. good-step key _ none c _ _ _ _ _ (λ _.
+      (quiet, check-N c d i e s (leb-false counterMax (c .vault .s) (or-left (leb counterMax (c .vault .s)) (leb counterMax (c .vault .n)) r)) (leb-false counterMax (c .vault .n) (or-right (leb counterMax (c .vault .s)) (leb counterMax (c .vault .n)) r)))))
+  keep-check c d room (D.Checkpoint step) i e s = keep-step c d room step i e s
   keep-check c d room D.Record i e s = tt
-  keep-check c d room (D.TruncateR l p) i e s = tt
-  keep-check c d room (D.TruncateDelete p) i e s = tt
-  keep-check c d room (D.RecoverFile b) i e s = tt
-  keep-check c d room (D.RecoverVersion b) i e s = tt
-  keep-check c d room D.RecoverSeal i e s = tt
-  keep-check c d room (D.RecoverR l) i e s = tt
-  keep-check c d room D.RecoverEpoch i e s = tt
-  keep-check c d room (D.RecoverV l) i e s = tt
-  keep-check c d room D.RecoverEmpty i e s = tt
+  keep-check c d room (D.Truncate position step) i e s = tt
+  keep-check c d room (D.Recover step) i e s = tt
 
   pub keep-checkpoint : (c : State) (d : Durable) (room : ℕ) → Durably (At c d) → LinkedAt key c (At c d) (c .phase) (c .due) → GoodAnswer key (At c d) none (checkpoint c room)
   unfolding checkpoint

@@ -19,8 +19,8 @@ use Rattle.sealed.proofs.LogTrip.{file-not-record, record-not-file}
 use Rattle.protocol.specs.Vaults.{vaultOk}
 use Rattle.protocol.specs.Said.{refuse, taking}
 use Rattle.protocol.specs.Load.{keyLen, loaded, blank, load}
-use Rattle.protocol.specs.Replay.{Read, stopped, reading, replay}
-use Rattle.protocol.specs.Recover.{spent, otherVersion, recovered, recoverRead, recoverLog, recoverFile, recoverFrom, recoverFirst, recoverPhase}
+use Rattle.protocol.specs.Replay.{Read, stopped, reading, orStop, replay}
+use Rattle.protocol.specs.Recover.{spent, otherVersion, readFile, readFrom, recovered, recoverRead, recoverFirst, recoverPhase}
 use Rattle.protocol.specs.History.{isTaken}
 use Rattle.protocol.specs.declared.Vault.{Vault}
 use Rattle.protocol.specs.declared.State.{State}
@@ -34,7 +34,7 @@ use Rattle.protocol.proofs.Invariant.{Durable, quiet, FileIn, SealedOnc
 use Rattle.protocol.proofs.KeepRecover.{good-refuse}
 
 -- a checkpoint that is not turned down is of version S
-pub asked : (c : State) (f : OpenedFile) → otherVersion c f ≡ false → f .version ≡ c .vault .s
+pub asked : (c : State) (f : OpenedFile) → otherVersion (c .vault) f ≡ false → f .version ≡ c .vault .s
 unfolding otherVersion
 asked c f v = eqb-true (f .version) (c .vault .s) (not-false _ v)
 
@@ -96,24 +96,31 @@ module _ (key : List ℕ) where
         },
       )
 
-  keep-log : (c : State) (d : Durable) (log : List ℕ) (t : Table) → c .key ≡ key → Durably (At c d) → TrustedLog d log → Upto (d .book) (c .vault .r) t → spent (c .vault) ≡ false → GoodAnswer key (At c d) none (recoverLog c log t)
-  unfolding recoverLog
+  -- a reading that is stopped keeps the invariant, and so does what goes on where it is not
+  good-stop : (c : State) (d : Durable) (b : Bool) (n : ℕ) (vs : List ℕ) (r : Read) → (b ≡ false → GoodAnswer key d none (recoverRead c r)) → GoodAnswer key d none (recoverRead c (orStop b n vs r))
+  unfolding orStop recoverRead
+  good-stop c d true n vs r f = tt
+  good-stop c d false n vs r f = f refl
+
+  keep-log : (c : State) (d : Durable) (log : List ℕ) (t : Table) → c .key ≡ key → Durably (At c d) → TrustedLog d log → Upto (d .book) (c .vault .r) t → spent (c .vault) ≡ false → GoodAnswer key (At c d) none (recoverRead c (replay (aesGcm (c .key)) (c .vault) t log))
   keep-log c d log t kk i h u sp = keep-read c d log t kk i h u sp (replay (aesGcm (c .key)) (c .vault) t log) refl
 
   -- the table that recovery starts from has the book up to R
-  keep-file : (c : State) (d : Durable) (log : List ℕ) (o : Option OpenedFile) → c .key ≡ key → Durably (At c d) → TrustedLog d log → ((f : OpenedFile) → o ≡ some f → FileIn (d .files) f) → spent (c .vault) ≡ false → GoodAnswer key (At c d) none (recoverFile c log o)
-  unfolding recoverFile
+  keep-file : (c : State) (d : Durable) (log : List ℕ) (o : Option OpenedFile) → c .key ≡ key → Durably (At c d) → TrustedLog d log → ((f : OpenedFile) → o ≡ some f → FileIn (d .files) f) → spent (c .vault) ≡ false
+      → GoodAnswer key (At c d) none (recoverRead c (readFile (aesGcm (c .key)) (c .vault) log o))
+  unfolding readFile recoverRead
   keep-file c d log none kk i h hf sp = tt
-  keep-file c d log (some f) kk i h hf sp = good-refuse key _ none _ c 12 [] _ (λ v.
+  keep-file c d log (some f) kk i h hf sp = good-stop c (At c d) _ 12 [] _ (λ v.
       keep-log c d log (f .table) kk i h (i .files .held f (hf f refl) (asked c f v)) sp)
 
-  keep-from : (c : State) (d : Durable) (file log : List ℕ) → c .key ≡ key → Durably (At c d) → TrustedLog d log → TrustedFile d file → spent (c .vault) ≡ false → GoodAnswer key (At c d) none (recoverFrom c file log)
-  unfolding recoverFrom
+  keep-from : (c : State) (d : Durable) (file log : List ℕ) → c .key ≡ key → Durably (At c d) → TrustedLog d log → TrustedFile d file → spent (c .vault) ≡ false
+      → GoodAnswer key (At c d) none (recoverRead c (readFrom (aesGcm (c .key)) (c .vault) file log))
+  unfolding readFrom
   keep-from c d file log kk i h hf sp = go (eqb (c .vault .s) 0) refl
     where
       go : (b : Bool) → eqb (c .vault .s) 0 ≡ b
-          → GoodAnswer key (At c d) none (cond b (refuse (not (eqb (length file) 0)) c 9 (0 ∷ []) (recoverLog c log emptyTable)) (recoverFile c log (openFile (aesGcm (c .key)) file)))
-      go true e = good-refuse key _ none _ c 9 _ _ (λ _. keep-log c d log emptyTable kk i h (i .files .fresh (eqb-true (c .vault .s) 0 e)) sp)
+          → GoodAnswer key (At c d) none (recoverRead c (cond b (orStop (not (eqb (length file) 0)) 9 (0 ∷ []) (replay (aesGcm (c .key)) (c .vault) emptyTable log)) (readFile (aesGcm (c .key)) (c .vault) log (openFile (aesGcm (c .key)) file))))
+      go true e = good-stop c (At c d) _ 9 _ _ (λ _. keep-log c d log emptyTable kk i h (i .files .fresh (eqb-true (c .vault .s) 0 e)) sp)
       go false e = keep-file c d log (openFile (aesGcm (c .key)) file) kk i h
           (λ f o. let q = subst (λ (x : List ℕ). openFile (aesGcm x) file ≡ some f) kk o in unseal-file file f (i .files) (hf f q) q) sp
 

@@ -20,17 +20,23 @@ use Rattle.sealed.specs.Record.{Opened}
 use Rattle.sealed.specs.Checkpoint.{OpenedFile, fileBytes}
 use Rattle.protocol.specs.Vaults.{counterMax, setV, setR, setE, setS, setN}
 use Rattle.protocol.specs.States.{withVault}
-use Rattle.protocol.specs.Said.{Answered, refuse}
+use Rattle.protocol.specs.Said.{Answered, taking, refuse}
+use Rattle.protocol.specs.Steps.{standsIf, raiseS, raiseN, raiseE, levelR, levelV, stepped, tableFile, fileStep}
 use Rattle.protocol.specs.Point.{marksTo, marksOf}
 use Rattle.protocol.specs.Truncate.{pointsOf}
-use Rattle.protocol.specs.Checkpoint.{tableFile}
-use Rattle.protocol.specs.Recover.{afterVersion, allVisible, afterR, afterV, inService, recoverDue}
+use Rattle.protocol.specs.Recover.{afterVersion, allVisible, afterR, afterV, recoverNumber, inService, recoverStep, recoverDue}
 use Rattle.protocol.specs.declared.Vault.{Vault}
 use Rattle.protocol.specs.declared.State.{State}
 use Rattle.protocol.specs.declared.Phase.{Phase}
 use Rattle.protocol.specs.declared.Phase.the-variants as F
 use Rattle.protocol.specs.declared.Due.{Due}
 use Rattle.protocol.specs.declared.Due.the-variants as D
+use Rattle.protocol.specs.declared.RecoverStep.{RecoverStep}
+use Rattle.protocol.specs.declared.RecoverStep.the-variants as G
+use Rattle.protocol.specs.declared.RecoverNumber.{RecoverNumber}
+use Rattle.protocol.specs.declared.RecoverNumber.the-variants as M
+use Rattle.protocol.specs.declared.Store.{Store}
+use Rattle.protocol.specs.declared.Store.the-variants as S
 use Rattle.protocol.proofs.Basis.{fileOf}
 use Rattle.protocol.proofs.Lanes.{Put, same, other, put}
 use Rattle.protocol.proofs.Latest.{Full, full-upto}
@@ -44,6 +50,12 @@ module _ (key : List ℕ) where
   unfolding refuse
   good-refuse d adds true c n vs a f = tt
   good-refuse d adds false c n vs a f = f refl
+
+  -- the step of a vault number
+  pub good-step : (d : Durable) (adds : Option Opened) (c : State) (b : Bool) (x y : Vault) (du : Due) (st : Store) → (b ≡ false → GoodAnswer key d adds (taking (withVault c y du) st [])) → GoodAnswer key d adds (stepped c (standsIf b x y du st))
+  unfolding stepped standsIf refuse
+  good-step d adds c true x y du st f = tt
+  good-step d adds c false x y du st f = f refl
 
   link-rec : (c : State) (d : Durable) (x : Vault) (du : Due) → c .key ≡ key → c .phase ≡ F.Recovering → x ≡ d .vault → Full (d .book) (c .table) → RecoverDue x d du → Linked key (withVault c x du) d
   link-rec c d x du k e s t r = record { same = s; rest = subst (λ (ph : Phase). LinkedAt key (withVault c x du) d ph du) (sym e) (record { key-is = k; table = t; stored = r }) }
@@ -86,8 +98,8 @@ module _ (key : List ℕ) where
   s-next c false h = omega arith
   s-next c true h = h
 
-  keep-file : (c : State) (d : Durable) → Durably (At c d) → c .phase ≡ F.Recovering → (b : Bool) → Recovering key c (At c d) (D.RecoverFile b) → (room : ℕ) → GoodAnswer key (At c d) none (recoverDue c room (D.RecoverFile b))
-  unfolding recoverDue
+  keep-file : (c : State) (d : Durable) → Durably (At c d) → c .phase ≡ F.Recovering → (b : Bool) → Recovering key c (At c d) (D.Recover (G.File b)) → (room : ℕ) → GoodAnswer key (At c d) none (fileStep c room (D.Recover (G.Number (M.S b))))
+  unfolding fileStep
   keep-file c d i e b r room = good-refuse _ none _ c 1 [] _ (λ _. good-refuse _ none _ c 3 _ _ (λ _.
       let h = s-next c b (r .stored .s-room) in (
         outFile (nextFile c),
@@ -96,19 +108,19 @@ module _ (key : List ℕ) where
           rises = tt;
           now = file-now c d i (r .table) h;
           then = file-then c d i (r .table) h;
-          link = link-rec c _ (c .vault) (D.RecoverVersion b) (r .key-is) e refl (r .table) (r .stored, has-next c d);
+          link = link-rec c _ (c .vault) (D.Recover (G.Number (M.S b))) (r .key-is) e refl (r .table) (r .stored, has-next c d);
         },
       )))
 
   -- the first checkpoint leaves room for the second; behind the second every file of version S has the whole book
-  version-due : (x : Vault) (d : Durable) (b : Bool) → Durably (vaultTo d x) → RecoverDue x d (D.RecoverVersion b) → RecoverDue (setS x (suc (x .s))) (vaultTo d (setS x (suc (x .s)))) (afterVersion b)
+  version-due : (x : Vault) (d : Durable) (b : Bool) → Durably (vaultTo d x) → RecoverDue x d (D.Recover (G.Number (M.S b))) → RecoverDue (setS x (suc (x .s))) (vaultTo d (setS x (suc (x .s)))) (afterVersion b)
   unfolding afterVersion
   version-due x d false i r = let a = r .0 in record { s-room = omega arith; n-room = a .n-room; e-room = a .e-room }
   version-due x d true i r = let a = r .0 in (omega arith, record { caught = settled-s (i .files); r-is-w = λ k h. absurd (omega arith); v-is-w = λ k h. absurd (omega arith); e-room = omega (arith, a .e-room) })
 
-  keep-S : (c : State) (d : Durable) → Durably (At c d) → c .phase ≡ F.Recovering → (b : Bool) → Recovering key c (At c d) (D.RecoverVersion b) → (room : ℕ) → GoodAnswer key (At c d) none (recoverDue c room (D.RecoverVersion b))
-  unfolding recoverDue
-  keep-S c d i e b r room = good-refuse _ none _ c 1 [] _ (λ _. (
+  keep-S : (c : State) (d : Durable) → Durably (At c d) → c .phase ≡ F.Recovering → (b : Bool) → Recovering key c (At c d) (D.Recover (G.Number (M.S b))) → GoodAnswer key (At c d) none (stepped c (recoverNumber (c .vault) (M.S b)))
+  unfolding recoverNumber raiseS
+  keep-S c d i e b r = good-step _ none c _ _ _ _ _ (λ _. (
     quiet,
     record {
       puts = tt;
@@ -119,30 +131,30 @@ module _ (key : List ℕ) where
     },
   ))
 
-  keep-N : (c : State) (d : Durable) → Durably (At c d) → c .phase ≡ F.Recovering → Recovering key c (At c d) D.RecoverSeal → (room : ℕ) → GoodAnswer key (At c d) none (recoverDue c room D.RecoverSeal)
-  unfolding recoverDue
-  keep-N c d i e r room = let a = r .stored in good-refuse _ none _ c 1 [] _ (λ _. (
+  keep-N : (c : State) (d : Durable) → Durably (At c d) → c .phase ≡ F.Recovering → Recovering key c (At c d) (D.Recover (G.Number M.N)) → GoodAnswer key (At c d) none (stepped c (recoverNumber (c .vault) M.N))
+  unfolding recoverNumber raiseN
+  keep-N c d i e r = let a = r .stored in good-step _ none c _ _ _ _ _ (λ _. (
     quiet,
     record {
       puts = tt;
       rises = omega arith;
       now = i;
       then = record { lanes = i .lanes; nums = record { e≤ = i .nums .e≤; s≤ = i .nums .s≤; n≤ = let z = a .n-room in omega arith }; sealed = i .sealed; book = i .book; files = i .files; card = i .card; kept = i .kept };
-      link = link-rec c _ (setN (c .vault) (suc (c .vault .n))) (D.RecoverFile true) (r .key-is) e refl (r .table) (record { s-room = a .s-room; n-room = let z = a .n-room in omega arith; e-room = a .e-room });
+      link = link-rec c _ (setN (c .vault) (suc (c .vault .n))) (D.Recover (G.File true)) (r .key-is) e refl (r .table) (record { s-room = a .s-room; n-room = let z = a .n-room in omega arith; e-room = a .e-room });
     },
   ))
 
   -- behind R of a lane: the next lane, and behind the last E and V, or emptying the log
   r-due : (x : Vault) (d : Durable) (l : ℕ) (b q : Bool) → l < lanes → Raising x d (suc l) 0 1 → ltb (suc l) lanes ≡ b → allBelow (λ i. eqb (at (x .w) i) (at (x .v) i)) lanes ≡ q
-      → RecoverDue x d (cond b (D.RecoverR (suc l)) (cond q D.RecoverEmpty D.RecoverEpoch))
+      → RecoverDue x d (D.Recover (cond b (G.Number (M.R (suc l))) (cond q G.Empty (G.Number M.E))))
   r-due x d l true q h f eb eq = (ltb-true (suc l) lanes eb, f)
   r-due x d l false true h f eb eq = let z = ltb-false (suc l) lanes eb in
       record { caught = f .caught; r-is-w = λ k lt. f .r-is-w k (omega arith); v-is-w = λ k lt. sym (eqb-true (at (x .w) k) (at (x .v) k) (all-at _ lanes eq k lt)); e-room = let y = f .e-room in omega arith }
   r-due x d l false false h f eb eq = let z = ltb-false (suc l) lanes eb in record { caught = f .caught; r-is-w = λ k lt. f .r-is-w k (omega arith); v-is-w = f .v-is-w; e-room = f .e-room }
 
-  keep-R : (c : State) (d : Durable) → Durably (At c d) → c .phase ≡ F.Recovering → (l : ℕ) → Recovering key c (At c d) (D.RecoverR l) → (room : ℕ) → GoodAnswer key (At c d) none (recoverDue c room (D.RecoverR l))
-  unfolding recoverDue afterR allVisible
-  keep-R c d i e l r room =
+  keep-R : (c : State) (d : Durable) → Durably (At c d) → c .phase ≡ F.Recovering → (l : ℕ) → Recovering key c (At c d) (D.Recover (G.Number (M.R l))) → GoodAnswer key (At c d) none (stepped c (recoverNumber (c .vault) (M.R l)))
+  unfolding recoverNumber levelR afterR allVisible
+  keep-R c d i e l r =
       let h = r .stored .0 in
       let a = r .stored .1 in
       let s = a .caught in
@@ -151,7 +163,7 @@ module _ (key : List ℕ) where
       let lr : l < length (c .vault .r) = omega (arith, i .lanes .rlen) in
       let u = up-set (c .vault .r) l (at (c .vault .w) l) lr (ln .gone) in
       let i′ = lanes-r l (at (c .vault .w) l) h (omega arith) (inr (omega arith)) (i .lanes) in
-      good-refuse _ none _ c 1 [] _ (λ _. (
+      good-step _ none c _ _ _ _ _ (λ _. (
         quiet,
         record {
           puts = tt;
@@ -165,12 +177,12 @@ module _ (key : List ℕ) where
       ))
 
   -- where R is W in each lane, V and E are free to rise
-  keep-E : (c : State) (d : Durable) → Durably (At c d) → c .phase ≡ F.Recovering → Recovering key c (At c d) D.RecoverEpoch → (room : ℕ) → GoodAnswer key (At c d) none (recoverDue c room D.RecoverEpoch)
-  unfolding recoverDue
-  keep-E c d i e r room =
+  keep-E : (c : State) (d : Durable) → Durably (At c d) → c .phase ≡ F.Recovering → Recovering key c (At c d) (D.Recover (G.Number M.E)) → GoodAnswer key (At c d) none (stepped c (recoverNumber (c .vault) M.E))
+  unfolding recoverNumber raiseE
+  keep-E c d i e r =
       let a = r .stored in
       let ev = even-all (c .vault .r) (c .vault .w) (i .lanes .rlen) (i .lanes .wlen) (a .r-is-w) in
-      good-refuse _ none _ c 1 [] _ (λ _. (
+      good-step _ none c _ _ _ _ _ (λ _. (
         quiet,
         record {
           puts = tt;
@@ -185,18 +197,18 @@ module _ (key : List ℕ) where
             card = i .card;
             kept = i .kept;
           };
-          link = link-rec c _ (setE (c .vault) (suc (c .vault .e))) (D.RecoverV 0) (r .key-is) e refl (r .table)
+          link = link-rec c _ (setE (c .vault) (suc (c .vault .e))) (D.Recover (G.Number (M.V 0))) (r .key-is) e refl (r .table)
               (omega arith, record { caught = a .caught; r-is-w = a .r-is-w; v-is-w = λ k h. absurd (omega arith); e-room = let z = a .e-room in omega arith });
         },
       ))
 
-  v-due : (x : Vault) (d : Durable) (l : ℕ) (b : Bool) → l < lanes → Raising x d lanes (suc l) 0 → ltb (suc l) lanes ≡ b → RecoverDue x d (cond b (D.RecoverV (suc l)) D.RecoverEmpty)
+  v-due : (x : Vault) (d : Durable) (l : ℕ) (b : Bool) → l < lanes → Raising x d lanes (suc l) 0 → ltb (suc l) lanes ≡ b → RecoverDue x d (D.Recover (cond b (G.Number (M.V (suc l))) G.Empty))
   v-due x d l true h f eb = (ltb-true (suc l) lanes eb, f)
   v-due x d l false h f eb = let z = ltb-false (suc l) lanes eb in record { caught = f .caught; r-is-w = f .r-is-w; v-is-w = λ k lt. f .v-is-w k (omega arith); e-room = f .e-room }
 
-  keep-V : (c : State) (d : Durable) → Durably (At c d) → c .phase ≡ F.Recovering → (l : ℕ) → Recovering key c (At c d) (D.RecoverV l) → (room : ℕ) → GoodAnswer key (At c d) none (recoverDue c room (D.RecoverV l))
-  unfolding recoverDue afterV
-  keep-V c d i e l r room =
+  keep-V : (c : State) (d : Durable) → Durably (At c d) → c .phase ≡ F.Recovering → (l : ℕ) → Recovering key c (At c d) (D.Recover (G.Number (M.V l))) → GoodAnswer key (At c d) none (stepped c (recoverNumber (c .vault) (M.V l)))
+  unfolding recoverNumber levelV afterV
+  keep-V c d i e l r =
       let h = r .stored .0 in
       let a = r .stored .1 in
       let ev = even-all (c .vault .r) (c .vault .w) (i .lanes .rlen) (i .lanes .wlen) (a .r-is-w) in
@@ -206,7 +218,7 @@ module _ (key : List ℕ) where
       let u = up-set (c .vault .v) l (at (c .vault .w) l) lv (ln .seen) in
       let i′ = lanes-v l (at (c .vault .w) l) h (omega arith) (inr (let z = ev l in omega arith)) (i .lanes) in
       let f : (k : ℕ) → at (x .v) k ≤ at (x .r) k = λ k. let b = i′ .lane k .seen in let z = ev k in omega arith in
-      good-refuse _ none _ c 1 [] _ (λ _. (
+      good-step _ none c _ _ _ _ _ (λ _. (
         quiet,
         record {
           puts = tt;
@@ -218,9 +230,9 @@ module _ (key : List ℕ) where
         },
       ))
 
-  keep-empty : (c : State) (d : Durable) → Durably (At c d) → Recovering key c (At c d) D.RecoverEmpty → (room : ℕ) → GoodAnswer key (At c d) none (recoverDue c room D.RecoverEmpty)
-  unfolding recoverDue inService cnt marksOf marksTo pointsOf
-  keep-empty c d i r room =
+  keep-empty : (c : State) (d : Durable) → Durably (At c d) → Recovering key c (At c d) (D.Recover G.Empty) → GoodAnswer key (At c d) none (taking (inService c) S.Empty [])
+  unfolding inService cnt marksOf marksTo pointsOf
+  keep-empty c d i r =
       let s = r .stored .caught in
       let rw = even-all (c .vault .r) (c .vault .w) (i .lanes .rlen) (i .lanes .wlen) (r .stored .r-is-w) in
       let vw = even-all (c .vault .v) (c .vault .w) (i .lanes .vlen) (i .lanes .wlen) (r .stored .v-is-w) in
@@ -259,17 +271,23 @@ module _ (key : List ℕ) where
       )
 
   -- each call that goes on with recovery's stores
+  keep-number : (c : State) (d : Durable) (number : RecoverNumber) → Durably (At c d) → c .phase ≡ F.Recovering → Recovering key c (At c d) (D.Recover (G.Number number)) → GoodAnswer key (At c d) none (stepped c (recoverNumber (c .vault) number))
+  keep-number c d (M.S b) i e r = keep-S c d i e b r
+  keep-number c d M.N i e r = keep-N c d i e r
+  keep-number c d (M.R l) i e r = keep-R c d i e l r
+  keep-number c d M.E i e r = keep-E c d i e r
+  keep-number c d (M.V l) i e r = keep-V c d i e l r
+
+  keep-step : (c : State) (d : Durable) (step : RecoverStep) → Durably (At c d) → c .phase ≡ F.Recovering → Recovering key c (At c d) (D.Recover step) → (room : ℕ) → GoodAnswer key (At c d) none (recoverStep c room step)
+  unfolding recoverStep
+  keep-step c d (G.File b) i e r room = keep-file c d i e b r room
+  keep-step c d (G.Number number) i e r room = keep-number c d number i e r
+  keep-step c d G.Empty i e r room = keep-empty c d i r
+
   pub keep-due : (c : State) (d : Durable) (du : Due) → Durably (At c d) → c .phase ≡ F.Recovering → Recovering key c (At c d) du → (room : ℕ) → GoodAnswer key (At c d) none (recoverDue c room du)
+  unfolding recoverDue
   keep-due c d D.Nothing i e r room = absurd (r .stored)
   keep-due c d D.Record i e r room = absurd (r .stored)
-  keep-due c d D.File i e r room = absurd (r .stored)
-  keep-due c d D.Version i e r room = absurd (r .stored)
-  keep-due c d (D.TruncateR l p) i e r room = absurd (r .stored)
-  keep-due c d (D.TruncateDelete p) i e r room = absurd (r .stored)
-  keep-due c d (D.RecoverFile b) i e r room = keep-file c d i e b r room
-  keep-due c d (D.RecoverVersion b) i e r room = keep-S c d i e b r room
-  keep-due c d D.RecoverSeal i e r room = keep-N c d i e r room
-  keep-due c d (D.RecoverR l) i e r room = keep-R c d i e l r room
-  keep-due c d D.RecoverEpoch i e r room = keep-E c d i e r room
-  keep-due c d (D.RecoverV l) i e r room = keep-V c d i e l r room
-  keep-due c d D.RecoverEmpty i e r room = keep-empty c d i r room
+  keep-due c d (D.Checkpoint step) i e r room = absurd (r .stored)
+  keep-due c d (D.Truncate position step) i e r room = absurd (r .stored)
+  keep-due c d (D.Recover step) i e r room = keep-step c d step i e r room

@@ -16,12 +16,14 @@ use Rattle.table.specs.Table.{lanes}
 use Rattle.protocol.specs.Vaults.{setR}
 use Rattle.protocol.specs.States.{listed, withVault, withPoints}
 use Rattle.protocol.specs.Point.{marksOf}
-use Rattle.protocol.specs.Truncate.{pointsOf, findPoint, pointsAbove, droppedTo, afterTruncateR, truncateLane, uncovered, truncateFirst, truncateNext, truncateDue, truncate}
+use Rattle.protocol.specs.Truncate.{pointsOf, findPoint, pointsAbove, droppedTo, afterTruncateR, truncateLane, uncovered, truncateFirst, truncateNext, truncateDelete, truncateStep, truncateDue, truncate}
 use Rattle.protocol.specs.declared.Point.{Point}
 use Rattle.protocol.specs.declared.State.{State}
 use Rattle.protocol.specs.declared.Phase.the-variants as F
 use Rattle.protocol.specs.declared.Due.{Due}
 use Rattle.protocol.specs.declared.Due.the-variants as D
+use Rattle.protocol.specs.declared.TruncateStep.{TruncateStep}
+use Rattle.protocol.specs.declared.TruncateStep.the-variants as L
 use Rattle.protocol.specs.declared.Store.the-variants as S
 use Rattle.protocol.proofs.Lanes.{Put, same, other, put}
 use Rattle.protocol.proofs.Latest.{Full, upto-set}
@@ -144,7 +146,7 @@ is-covered p e = not-false (p .covered) e
 module _ (key : List ℕ) where
   -- behind R of lane j: the next lane, or the deletion
   cut-due : (c : State) (d : Durable) (j pos : ℕ) (b : Bool) → ltb (suc j) lanes ≡ b → j < lanes → c .key ≡ key → Arrays (c .journal) (c .points) → Full (d .book) (c .table) → ServingAt c d (d .spots) → Cutting c d (suc j) pos
-      → Service key c d (cond b (D.TruncateR (suc j) pos) (D.TruncateDelete pos))
+      → Service key c d (D.Truncate pos (cond b (L.R (suc j)) L.Delete))
   cut-due c d j pos true e h ky ar t sv k = record { key-is = ky; arrays = ar; table = t; common = sv; stored = k }
   cut-due c d j pos false e h ky ar t sv k = let z = ltb-false (suc j) lanes e in let y : suc j ≡ lanes = omega arith in
       record { key-is = ky; arrays = ar; table = t; common = sv; stored = subst (λ (x : ℕ). Cutting c d x pos) y k }
@@ -257,28 +259,24 @@ module _ (key : List ℕ) where
       keep-lane c d pos 0 p i e (s .common) (s .key-is) (s .arrays) (s .table) f
       (record { stale = s .stored .0; at-point = p; found = f; covered = cv; did = λ l lt. absurd (omega arith); left = λ l ge. s .stored .1 l }) (omega arith))
 
-  keep-next : (c : State) (d : Durable) (pos lane : ℕ) (o : Option Point) → Durably (At c d) → c .phase ≡ F.Serving → Service key c (At c d) (D.TruncateR lane pos) → findPoint pos (pointsOf (c .points)) ≡ o → GoodAnswer key (At c d) none (truncateNext c pos lane o)
+  keep-next : (c : State) (d : Durable) (pos lane : ℕ) (o : Option Point) → Durably (At c d) → c .phase ≡ F.Serving → Service key c (At c d) (D.Truncate pos (L.R lane)) → findPoint pos (pointsOf (c .points)) ≡ o → GoodAnswer key (At c d) none (truncateNext c pos lane o)
   unfolding truncateNext
   keep-next c d pos lane none i e s f = tt
   keep-next c d pos lane (some p) i e s f = good-refuse key _ none (leb lanes lane) c 1 [] _ (λ r. keep-lane c d pos lane p i e (s .common) (s .key-is) (s .arrays) (s .table) f (s .stored) (leb-false lanes lane r))
 
+  keep-step : (c : State) (d : Durable) (pos : ℕ) (step : TruncateStep) → Durably (At c d) → c .phase ≡ F.Serving → Service key c (At c d) (D.Truncate pos step) → GoodAnswer key (At c d) none (truncateStep c pos step)
+  unfolding truncateStep truncateDelete
+  keep-step c d pos (L.R lane) i e s = keep-next c d pos lane (findPoint pos (pointsOf (c .points))) i e s refl
+  keep-step c d pos L.Delete i e s = (quiet, delete-good c d pos i e (s .common) (s .key-is) (s .arrays) (s .table) (s .stored))
+
   keep-due : (c : State) (d : Durable) (pos : ℕ) (du : Due) → Durably (At c d) → c .phase ≡ F.Serving → Service key c (At c d) du → GoodAnswer key (At c d) none (truncateDue c pos du)
   unfolding truncateDue
   keep-due c d pos D.Nothing i e s = keep-first c d pos (findPoint pos (pointsOf (c .points))) i e s refl
-  keep-due c d pos (D.TruncateR lane p) i e s = good-refuse key _ none (not (eqb p pos)) c 1 [] _ (λ r. let q = eqb-true p pos (not-false _ r) in
-      keep-next c d pos lane (findPoint pos (pointsOf (c .points))) i e (subst (λ (y : ℕ). Service key c (At c d) (D.TruncateR lane y)) q s) refl)
-  keep-due c d pos (D.TruncateDelete p) i e s = good-refuse key _ none (not (eqb p pos)) c 1 [] _ (λ r. let q = eqb-true p pos (not-false _ r) in
-      (quiet, delete-good c d pos i e (s .common) (s .key-is) (s .arrays) (s .table) (subst (λ (y : ℕ). Cutting c (At c d) lanes y) q (s .stored))))
+  keep-due c d pos (D.Truncate p step) i e s = good-refuse key _ none (not (eqb p pos)) c 1 [] _ (λ r.
+      keep-step c d pos step i e (subst (λ (y : ℕ). Service key c (At c d) (D.Truncate y step)) (eqb-true p pos (not-false _ r)) s))
   keep-due c d pos D.Record i e s = tt
-  keep-due c d pos D.File i e s = tt
-  keep-due c d pos D.Version i e s = tt
-  keep-due c d pos (D.RecoverFile b) i e s = tt
-  keep-due c d pos (D.RecoverVersion b) i e s = tt
-  keep-due c d pos D.RecoverSeal i e s = tt
-  keep-due c d pos (D.RecoverR l) i e s = tt
-  keep-due c d pos D.RecoverEpoch i e s = tt
-  keep-due c d pos (D.RecoverV l) i e s = tt
-  keep-due c d pos D.RecoverEmpty i e s = tt
+  keep-due c d pos (D.Checkpoint step) i e s = tt
+  keep-due c d pos (D.Recover step) i e s = tt
 
   pub keep-truncate : (c : State) (d : Durable) (pos : ℕ) → Durably (At c d) → LinkedAt key c (At c d) (c .phase) (c .due) → GoodAnswer key (At c d) none (truncate c pos)
   unfolding truncate

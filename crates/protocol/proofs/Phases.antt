@@ -27,32 +27,16 @@ use Rattle.protocol.proofs.Invariant.{Durable, SpotIn, Lanes, Carded, S
 pub is-nothing : (du : Due) → isNothing du ≡ true → du ≡ D.Nothing
 is-nothing D.Nothing e = refl
 is-nothing D.Record e = clash (sym e)
-is-nothing D.File e = clash (sym e)
-is-nothing D.Version e = clash (sym e)
-is-nothing (D.TruncateR l p) e = clash (sym e)
-is-nothing (D.TruncateDelete p) e = clash (sym e)
-is-nothing (D.RecoverFile b) e = clash (sym e)
-is-nothing (D.RecoverVersion b) e = clash (sym e)
-is-nothing D.RecoverSeal e = clash (sym e)
-is-nothing (D.RecoverR l) e = clash (sym e)
-is-nothing D.RecoverEpoch e = clash (sym e)
-is-nothing (D.RecoverV l) e = clash (sym e)
-is-nothing D.RecoverEmpty e = clash (sym e)
+is-nothing (D.Checkpoint step) e = clash (sym e)
+is-nothing (D.Truncate position step) e = clash (sym e)
+is-nothing (D.Recover step) e = clash (sym e)
 
 pub is-record : (du : Due) → isRecord du ≡ true → du ≡ D.Record
 is-record D.Record e = refl
 is-record D.Nothing e = clash (sym e)
-is-record D.File e = clash (sym e)
-is-record D.Version e = clash (sym e)
-is-record (D.TruncateR l p) e = clash (sym e)
-is-record (D.TruncateDelete p) e = clash (sym e)
-is-record (D.RecoverFile b) e = clash (sym e)
-is-record (D.RecoverVersion b) e = clash (sym e)
-is-record D.RecoverSeal e = clash (sym e)
-is-record (D.RecoverR l) e = clash (sym e)
-is-record D.RecoverEpoch e = clash (sym e)
-is-record (D.RecoverV l) e = clash (sym e)
-is-record D.RecoverEmpty e = clash (sym e)
+is-record (D.Checkpoint step) e = clash (sym e)
+is-record (D.Truncate position step) e = clash (sym e)
+is-record (D.Recover step) e = clash (sym e)
 
 pub is-serving : (ph : Phase) → serving ph ≡ true → ph ≡ F.Serving
 is-serving F.Serving e = refl
@@ -83,7 +67,7 @@ module _ (key : List ℕ) where
 
   -- a state that is ready
   pub when-ready : (c : State) (d : Durable) → LinkedAt key c d (c .phase) (c .due) → not (ready c) ≡ false → (c .phase ≡ F.Serving) × (c .due ≡ D.Nothing) × Service key c d D.Nothing
-  unfolding ready
+  unfolding ready valid
   when-ready c d k e =
       let a = not-false _ e in
       let p = is-serving (c .phase) (and-right (valid c) (serving (c .phase)) (and-left (valid c && serving (c .phase)) (isNothing (c .due)) a)) in

@@ -1,6 +1,7 @@
 -- A refusal leaves the state as it came, and puts nothing out.
 -- Assumes nothing.
 use mathlib.Core.Path.{_≡_, refl}
+use mathlib.Core.Bool.{true}
 use mathlib.Core.List.{List, []}
 use Prim.Native.Nat.{ℕ}
 use Rattle.protocol.specs.Said.{Said, refused, taken, Answered, refusing}
@@ -11,6 +12,7 @@ use Rattle.protocol.specs.Checkpoint.{checkpoint}
 use Rattle.protocol.specs.Truncate.{truncate}
 use Rattle.protocol.specs.Recover.{recover}
 use Rattle.protocol.specs.declared.State.{State}
+use Rattle.protocol.proofs.NumberLaws.{numberOk}
 use Rattle.protocol.proofs.Walks.{walk-accept, walk-seal, walk-commit, walk-point, walk-checkpoint, walk-truncate, walk-recover}
 
 unfoldable pub keptBy : Said → State → State → List ℕ → Type 0
@@ -21,9 +23,9 @@ keptBy (taken st n) c d out = Unit {0}
 pub record Kept (c : State) (a : Answered) : Type 0 where
   pub by : keptBy (a .said) c (a .state) (a .put)
 
-down : (c : State) (n : ℕ) (vs : List ℕ) → Kept c (refusing c n vs)
+down : (c : State) (n : ℕ) (vs : List ℕ) → numberOk n ≡ true → Kept c (refusing c n vs)
 unfolding keptBy
-down c n vs = record { by = (refl, refl) }
+down c n vs k = record { by = (refl, refl) }
 
 module _ (c : State) where
   pub accept-kept : (text : List ℕ) (lane position : ℕ) → Kept c (accept c text lane position)

@@ -42,6 +42,7 @@ use Rattle.protocol.specs.declared.Points.{Points}
 use Rattle.protocol.specs.declared.State.{State}
 use Rattle.protocol.specs.declared.Phase.the-variants as F
 use Rattle.protocol.specs.declared.Due.the-variants as D
+use Rattle.protocol.specs.declared.CheckpointStep.the-variants as K
 use Rattle.protocol.specs.declared.Store.the-variants as S
 use Rattle.protocol.proofs.VaultLaws.{StateFine, vault-fine, fine-vault, fine-state, fine-n, fine-s}
 use Rattle.protocol.proofs.Walks.{walk-accept, walk-point, past-refuse, at-refuse}
@@ -96,7 +97,7 @@ found-covered position (q ∷ ps) p e = by (eqb (q .position) position) (found-c
 
 -- the state behind the three stores
 abbrev behind : State → State
-behind c = checkpointed (withVault c (setN (c .vault) (suc (c .vault .n))) D.Version)
+behind c = checkpointed (withVault c (setN (c .vault) (suc (c .vault .n))) (D.Checkpoint K.Version))
 
 covered : (c : State) → Covered c (behind c)
 unfolding checkpointed coveredPoints coveredPoint
@@ -195,7 +196,7 @@ module _ (key : List ℕ) where
   fine-of es c i = record { vault = vault-fine (c .vault) (ap vaultOk (i .same) ∙ vault-ok (i .durable) (i .good)); listed = i .service .arrays .fewer; pointed = i .service .arrays .eighth }
 
   idle-ready : (es : List Event) (c : State) → Idle key es c → Known es c → ready c ≡ true
-  unfolding ready
+  unfolding ready valid
   idle-ready es c h i = rw (fine-state c (fine-of es c i), h .phase, h .due)
 
   pub accepts : AcceptSays key
@@ -222,7 +223,7 @@ module _ (key : List ℕ) where
 
   accepted-holds : (es : List Event) (c : State) → Idle key es c → (i : Known es c) (text : List ℕ) (lane position : ℕ) → legal text ≡ true → lane < lanes → c .journal .count < listed
       → at (c .vault .w) lane < counterMax → holds (accepted c text lane position) ≡ true
-  unfolding holds accepted listedMore holding
+  unfolding holds valid accepted listedMore holding
   accepted-holds es c h i text lane position fine ln few most =
       let d = accepted c text lane position in
       let f = fine-of es c i in
@@ -247,7 +248,7 @@ module _ (key : List ℕ) where
       let i = known es c h in
       walk-accept (λ a. isTaken (a .said) ≡ true → (seal (a .state) room .said ≡ taken (S.Record position) (length text + frameLen))
       × (seal (a .state) room .put ≡ recordBytes (aesGcm key) lane (c .vault .e) (suc (at (c .vault .w) lane)) text)) c
-      (λ n vs e. clash (sym e)) text lane position
+      (λ n vs k e. clash (sym e)) text lane position
       (λ r t ln p m w e.
       let hs = accepted-holds es c h i text lane position t ln m w in
       let ht = held-text c text lane position in
@@ -300,7 +301,7 @@ module _ (key : List ℕ) where
   keeps es c h position yea =
       let ar = known es c h .service .arrays in
       walk-point (λ a. isTaken (a .said) ≡ true → (p : Point) × (pointsOf (a .state .points) ≡ pointsOf (c .points) ++ (p ∷ [])) × (p .position ≡ position) × (p .covered ≡ false)) c
-      (λ n vs e. clash (sym e)) position
+      (λ n vs k e. clash (sym e)) position
       (λ r low few e. (pointAt c position, take-suc-set (c .points .items) (c .points .count) (pointAt c position) (omega (arith, ar .ilen)), refl, refl))
       yea
 

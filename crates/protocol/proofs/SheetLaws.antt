@@ -36,7 +36,7 @@ use Rattle.protocol.specs.Accept.{tooLow, listedMore, holding, accepted,
 use Rattle.protocol.specs.Commit.{committed, commitOpened, commit, outOfTurn}
 use Rattle.protocol.specs.Point.{point, pointed, pointsMore, journalOf, marksOf, marksTo, marksFrom, laneCount, unseenBelow, countsAt, pointAt}
 use Rattle.protocol.specs.Replay.{Read, passedOver, orStop, behind, stepOpened, steps, missingFrom, orMissing, ended, replay}
-use Rattle.protocol.specs.Recover.{logMax, spent, recovered, recoverRead, recoverLog, otherVersion, recoverFile, recoverFrom, recoverFirst, inService, recoverPhase, recover}
+use Rattle.protocol.specs.Recover.{logMax, spent, recovered, recoverRead, otherVersion, readFile, readFrom, recoverFirst, inService, recoverPhase, recover}
 use Rattle.protocol.specs.Sheet.{gives, Holds, number, display, someWrites, transaction, read, counted, vaultOf, acceptAt, commitSealed, visibleAt, logOf, fromLog, fromVersion, versioned, served, sealedOf, two, recordMax, sheet}
 use Rattle.protocol.specs.declared.Vault.{Vault}
 use Rattle.protocol.specs.declared.State.{State}
@@ -129,7 +129,7 @@ module _ (key : List ℕ) where
 
   recovers : (r v w : ℕ) (log : List ℕ) → vaultOk (vaultOf r v w) ≡ true → length log ≤ logMax
       → recover (loaded (vaultOf r v w) key) [] log fileLen ≡ recoverRead (loaded (vaultOf r v w) key) (replay (aesGcm key) (vaultOf r v w) emptyTable log)
-  unfolding recover recoverPhase recoverFirst recoverFrom recoverLog refuse loaded valid spent vaultOf
+  unfolding recover recoverPhase recoverFirst readFrom orStop refuse loaded valid spent vaultOf
   recovers r v w log h l = rw (h, le-ltb logMax (length log) l)
 
   from-log : (r v w : ℕ) (ns : List ℕ) → length key ≡ 16 → vaultOk (vaultOf r v w) ≡ true → allFit ns ≡ true → length ns ≤ 4
@@ -228,7 +228,7 @@ unfolding versioned
 version-opens key s h = file-opens key (record { version = s; seal = 0; table = emptyTable }) (record { canonical = empty-canonical; version = h; seal = omega arith })
 
 m12 : (key : List ℕ) → length key ≡ 16 → Marked key 12
-unfolding sheet fromVersion number loaded newVault vaultOk laneOk allBelow recover recoverPhase recoverFirst recoverFrom recoverFile otherVersion recoverLog recoverRead refuse valid spent openFile legalFile replay steps ended missingFrom orMissing
+unfolding sheet fromVersion number loaded newVault vaultOk laneOk allBelow recover recoverPhase recoverFirst readFrom readFile otherVersion recoverRead orStop refuse valid spent openFile legalFile replay steps ended missingFrom orMissing
 m12 key long = rw (loads key (setS newVault (2 ^ 48 - 3)) long refl, loads key (setS newVault (2 ^ 48 - 2)) long refl, version-opens key (2 ^ 48 - 3) (omega arith))
 
 -- ---- the sheet

@@ -194,7 +194,7 @@ fits-point c g position f low =
 
 -- a state that is ready is in service
 ready-serves : (c : State) → not (ready c) ≡ false → c .phase ≡ F.Serving
-unfolding ready
+unfolding ready valid
 ready-serves c e = is-serving (c .phase) (and-right (valid c) (serving (c .phase)) (and-left (valid c && serving (c .phase)) (isNothing (c .due)) (not-false _ e)))
 
 -- what a call that is taken leaves; of a refusal nothing is said
@@ -207,34 +207,34 @@ FitsAnswer k g a = FitsSaid k g (a .said) (a .state)
 
 fits-load : (g : Since) (x : Vault) (key : List ℕ) → FitsAnswer (callLoad x key) g (load x key)
 unfolding loaded
-fits-load g x key = walk-load (FitsAnswer (callLoad x key) g) (λ n vs. tt) x key tt
+fits-load g x key = walk-load (FitsAnswer (callLoad x key) g) (λ n vs k. tt) x key tt
 
 fits-call : (c : State) (k : Call) (g : Since) → FitsAt (c .phase) (c .journal) (c .points) g → FitsAnswer k g (answerOf c k)
 unfolding answerOf sinceTaken accepted committed pointed checkpointed coveredPoints droppedTo recovered inService
 fits-call c (callLoad x key) g f = fits-load g x key
-fits-call c (callAccept text lane position) g f = walk-accept (FitsAnswer (callAccept text lane position) g) c (λ n vs. tt) text lane position (λ r t l p m w.
+fits-call c (callAccept text lane position) g f = walk-accept (FitsAnswer (callAccept text lane position) g) c (λ n vs k. tt) text lane position (λ r t l p m w.
     let e = ready-serves c r in
     subst (λ (ph : Phase). FitsAt ph (accepted c text lane position .journal) (c .points) (sinceTaken (callAccept text lane position) g)) (sym e)
     (fits-accept c g text lane position (subst (λ (ph : Phase). FitsAt ph (c .journal) (c .points) g) e f) p m))
-fits-call c (callSeal room) g f = walk-seal (FitsAnswer (callSeal room) g) c (λ n vs. tt) room f
-fits-call c (callCommit bytes) g f = walk-commit (FitsAnswer (callCommit bytes) g) c (λ n vs. tt) bytes (λ r. f)
-fits-call c (callPoint position) g f = walk-point (FitsAnswer (callPoint position) g) c (λ n vs. tt) position (λ r p n.
+fits-call c (callSeal room) g f = walk-seal (FitsAnswer (callSeal room) g) c (λ n vs k. tt) room f
+fits-call c (callCommit bytes) g f = walk-commit (FitsAnswer (callCommit bytes) g) c (λ n vs k. tt) bytes (λ r. f)
+fits-call c (callPoint position) g f = walk-point (FitsAnswer (callPoint position) g) c (λ n vs k. tt) position (λ r p n.
     let e = ready-serves c r in
     subst (λ (ph : Phase). FitsAt ph (pointed c position .journal) (pointed c position .points) (sinceTaken (callPoint position) g)) (sym e)
     (fits-point c g position (subst (λ (ph : Phase). FitsAt ph (c .journal) (c .points) g) e f) p))
-fits-call c (callCheckpoint room) g f = walk-checkpoint (FitsAnswer (callCheckpoint room) g) c (λ n vs. tt) (λ x d st out. f) room (same (c .phase) f)
+fits-call c (callCheckpoint room) g f = walk-checkpoint (FitsAnswer (callCheckpoint room) g) c (λ n vs k. tt) (λ x d st out. f) room (same (c .phase) f)
   where
     same : (ph : Phase) → FitsAt ph (c .journal) (c .points) g → FitsAt ph (c .journal) (coveredPoints (c .points)) g
     same F.Cold h = tt
     same F.Recovering h = tt
     same F.Serving h = record { used = h .used; newest = h .newest; marks = h .marks; plen = h .plen; llen = h .llen; fewer = h .fewer }
-fits-call c (callTruncate position) g f = walk-truncate (FitsAnswer (callTruncate position) g) c (λ n vs. tt) (λ x d st out. f) position (same (c .phase) f)
+fits-call c (callTruncate position) g f = walk-truncate (FitsAnswer (callTruncate position) g) c (λ n vs k. tt) (λ x d st out. f) position (same (c .phase) f)
   where
     same : (ph : Phase) → FitsAt ph (c .journal) (c .points) g → FitsAt ph (c .journal) (droppedTo (c .points) position) g
     same F.Cold h = tt
     same F.Recovering h = tt
     same F.Serving h = record { used = h .used; newest = h .newest; marks = h .marks; plen = h .plen; llen = h .llen; fewer = h .fewer }
-fits-call c (callRecover file log room) g f = walk-recover (FitsAnswer (callRecover file log room) g) c (λ n vs. tt) file log room (λ t. tt)
+fits-call c (callRecover file log room) g f = walk-recover (FitsAnswer (callRecover file log room) g) c (λ n vs k. tt) file log room (λ t. tt)
     (λ e x d st out. subst (λ (ph : Phase). FitsAt ph (c .journal) (c .points) nothingSince) (sym e) tt) fits-empty
 
 -- ---- one event

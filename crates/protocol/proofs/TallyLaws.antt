@@ -18,14 +18,15 @@ use Rattle.table.specs.declared.Table.{Table}
 use Rattle.table.specs.Table.{lanes}
 use Rattle.table.proofs.OrderLaws.{clash}
 use Rattle.sealed.specs.Aead.{aesGcm}
-use Rattle.sealed.specs.Checkpoint.{fileLen, fileBytes, OpenedFile}
+use Rattle.sealed.specs.Checkpoint.{fileLen, fileBytes}
 use Rattle.protocol.specs.Vaults.{counterMax, setV, setR, setE, setS, setN}
 use Rattle.protocol.specs.States.{listed, pointsMax, valid, isNothing, withVault, withPoints}
 use Rattle.protocol.specs.Said.{Answered, taking, refuse}
-use Rattle.protocol.specs.Checkpoint.{tableFile, checkpointed, checkpointDue, checkpoint}
+use Rattle.protocol.specs.Steps.{standsIf, raiseS, raiseN, raiseE, levelR, levelV, stepped, tableFile, fileStep}
+use Rattle.protocol.specs.Checkpoint.{checkpointed, checkpointFirst, checkpointLast, checkpointStep, checkpointDue, checkpoint}
 use Rattle.protocol.specs.Replay.{Read, stopped, reading}
-use Rattle.protocol.specs.Recover.{spent, recovered, recoverRead, recoverLog, recoverFile, recoverFrom, recoverFirst, afterVersion, allVisible, afterR, afterV, inService, recoverDue, recoverPhase, recover}
-use Rattle.protocol.specs.Truncate.{pointsOf, findPoint, droppedTo, afterTruncateR, truncateLane, uncovered, truncateFirst, truncateNext, truncateDue, truncate}
+use Rattle.protocol.specs.Recover.{spent, recovered, recoverRead, recoverFirst, afterVersion, allVisible, afterR, afterV, recoverNumber, inService, recoverStep, recoverDue, recoverPhase, recover}
+use Rattle.protocol.specs.Truncate.{pointsOf, findPoint, droppedTo, afterTruncateR, truncateLane, uncovered, truncateFirst, truncateNext, truncateDelete, truncateStep, truncateDue, truncate}
 use Rattle.protocol.specs.History.{isTaken}
 use Rattle.protocol.specs.Tally.{fromLane, eachLane, storeR, storeV, lastStores, recoveryStores, truncateStores, checkpointStores, answers, lastState, named, namedBy, putBy, Names, Serves, Unchanged}
 use Rattle.protocol.specs.Claim.{Unspent}
@@ -35,6 +36,10 @@ use Rattle.protocol.specs.declared.Point.{Point}
 use Rattle.protocol.specs.declared.Phase.the-variants as F
 use Rattle.protocol.specs.declared.Due.{Due}
 use Rattle.protocol.specs.declared.Due.the-variants as D
+use Rattle.protocol.specs.declared.CheckpointStep.the-variants as K
+use Rattle.protocol.specs.declared.TruncateStep.the-variants as L
+use Rattle.protocol.specs.declared.RecoverStep.the-variants as G
+use Rattle.protocol.specs.declared.RecoverNumber.the-variants as M
 use Rattle.protocol.specs.declared.Store.{Store}
 use Rattle.protocol.specs.declared.Store.the-variants as S
 use Rattle.protocol.proofs.SpentLaws.{passes-unspent}
@@ -81,27 +86,10 @@ module _ (c : State) (fine : valid c ≡ true) (left : spent (c .vault) ≡ fals
   read-taken (stopped n vs) h = clash (sym h)
   read-taken (reading g) h = record { fine = fine; left = left; table = g .table; is = refl }
 
-  log-taken : (log : List ℕ) (t : Table) → isTaken (recoverLog c log t .said) ≡ true → Accepted c (recoverLog c log t)
-  unfolding recoverLog
-  log-taken log t = read-taken _
-
-  file-taken : (log : List ℕ) (o : Option OpenedFile) → isTaken (recoverFile c log o .said) ≡ true → Accepted c (recoverFile c log o)
-  unfolding recoverFile isTaken
-  file-taken log none = λ h. clash (sym h)
-  file-taken log (some f) = through _ c 12 [] _ (λ e. log-taken log (f .table))
-
-  from-taken : (file log : List ℕ) → isTaken (recoverFrom c file log .said) ≡ true → Accepted c (recoverFrom c file log)
-  unfolding recoverFrom
-  from-taken file log = either (eqb (c .vault .s) 0) _ _ (through _ c 9 _ _ (λ e. log-taken log _)) (file-taken log _)
-    where
-      either : (b : Bool) (p q : Answered) → (isTaken (p .said) ≡ true → Accepted c p) → (isTaken (q .said) ≡ true → Accepted c q) → isTaken (cond b p q .said) ≡ true → Accepted c (cond b p q)
-      either true p q hp hq = hp
-      either false p q hp hq = hq
-
 first-taken : (c : State) (file log : List ℕ) → isTaken (recoverFirst c file log .said) ≡ true → Accepted c (recoverFirst c file log)
 unfolding recoverFirst
 first-taken c file log =
-    through _ c 1 [] _ (λ v. through _ c 3 _ _ (λ l. through _ c 8 [] _ (λ s. from-taken c (and-true (valid c) (isNothing (c .due)) (not-false _ v) .0) s file log)))
+    through _ c 1 [] _ (λ v. through _ c 3 _ _ (λ l. through _ c 8 [] _ (λ s. read-taken c (and-true (valid c) (isNothing (c .due)) (not-false _ v) .0) s _)))
 
 module _ (b : State) (listing : b .journal .count ≤ listed) (pointing : b .points .count ≤ pointsMax) (file log : List ℕ) (room : ℕ) (long : fileLen ≤ room) where
   -- a recovering collector: the numbers, and the store that is due
@@ -120,87 +108,87 @@ module _ (b : State) (listing : b .journal .count ≤ listed) (pointing : b .poi
   goes x d f = rw (going-valid x d f)
 
   go-file : (x : Vault) (second : Bool) → VaultFine x → x .s < counterMax
-      → op (going x (D.RecoverFile second)) ≡ taking (going x (D.RecoverVersion second)) S.File (tableFile (going x (D.RecoverFile second)))
-  unfolding recoverDue refuse
-  go-file x second f h = goes x (D.RecoverFile second) f ∙ rw (lt-leb counterMax (x .s) h, le-ltb room fileLen long)
+      → op (going x (D.Recover (G.File second))) ≡ taking (going x (D.Recover (G.Number (M.S second)))) S.File (tableFile (going x (D.Recover (G.File second))))
+  unfolding recoverDue recoverStep fileStep refuse
+  go-file x second f h = goes x (D.Recover (G.File second)) f ∙ rw (lt-leb counterMax (x .s) h, le-ltb room fileLen long)
 
   go-version : (x : Vault) (second : Bool) → VaultFine x → x .s < counterMax
-      → op (going x (D.RecoverVersion second)) ≡ taking (going (setS x (suc (x .s))) (afterVersion second)) (S.S (suc (x .s))) []
-  unfolding recoverDue refuse
-  go-version x second f h = goes x (D.RecoverVersion second) f ∙ rw (lt-leb counterMax (x .s) h)
+      → op (going x (D.Recover (G.Number (M.S second)))) ≡ taking (going (setS x (suc (x .s))) (afterVersion second)) (S.S (suc (x .s))) []
+  unfolding recoverDue recoverStep recoverNumber raiseS standsIf stepped refuse
+  go-version x second f h = goes x (D.Recover (G.Number (M.S second))) f ∙ rw (lt-leb counterMax (x .s) h)
 
-  go-seal : (x : Vault) → VaultFine x → x .n < counterMax → op (going x D.RecoverSeal) ≡ taking (going (setN x (suc (x .n))) (D.RecoverFile true)) (S.N (suc (x .n))) []
-  unfolding recoverDue refuse
-  go-seal x f h = goes x D.RecoverSeal f ∙ rw (lt-leb counterMax (x .n) h)
+  go-seal : (x : Vault) → VaultFine x → x .n < counterMax → op (going x (D.Recover (G.Number M.N))) ≡ taking (going (setN x (suc (x .n))) (D.Recover (G.File true))) (S.N (suc (x .n))) []
+  unfolding recoverDue recoverStep recoverNumber raiseN standsIf stepped refuse
+  go-seal x f h = goes x (D.Recover (G.Number M.N)) f ∙ rw (lt-leb counterMax (x .n) h)
 
-  go-r : (x : Vault) (l : ℕ) → VaultFine x → l < lanes → op (going x (D.RecoverR l)) ≡ taking (going (setR x l (at (x .w) l)) (afterR x l)) (storeR x l) []
-  unfolding recoverDue refuse
-  go-r x l f h = goes x (D.RecoverR l) f ∙ rw (lt-leb lanes l h)
+  go-r : (x : Vault) (l : ℕ) → VaultFine x → l < lanes → op (going x (D.Recover (G.Number (M.R l)))) ≡ taking (going (setR x l (at (x .w) l)) (afterR x l)) (storeR x l) []
+  unfolding recoverDue recoverStep recoverNumber levelR standsIf stepped refuse
+  go-r x l f h = goes x (D.Recover (G.Number (M.R l))) f ∙ rw (lt-leb lanes l h)
 
-  go-epoch : (x : Vault) → VaultFine x → x .e < counterMax → op (going x D.RecoverEpoch) ≡ taking (going (setE x (suc (x .e))) (D.RecoverV 0)) (S.E (suc (x .e))) []
-  unfolding recoverDue refuse
-  go-epoch x f h = goes x D.RecoverEpoch f ∙ rw (lt-leb counterMax (x .e) h)
+  go-epoch : (x : Vault) → VaultFine x → x .e < counterMax → op (going x (D.Recover (G.Number M.E))) ≡ taking (going (setE x (suc (x .e))) (D.Recover (G.Number (M.V 0)))) (S.E (suc (x .e))) []
+  unfolding recoverDue recoverStep recoverNumber raiseE standsIf stepped refuse
+  go-epoch x f h = goes x (D.Recover (G.Number M.E)) f ∙ rw (lt-leb counterMax (x .e) h)
 
-  go-v : (x : Vault) (l : ℕ) → VaultFine x → l < lanes → op (going x (D.RecoverV l)) ≡ taking (going (setV x l (at (x .w) l)) (afterV l)) (storeV x l) []
-  unfolding recoverDue refuse
-  go-v x l f h = goes x (D.RecoverV l) f ∙ rw (lt-leb lanes l h)
+  go-v : (x : Vault) (l : ℕ) → VaultFine x → l < lanes → op (going x (D.Recover (G.Number (M.V l)))) ≡ taking (going (setV x l (at (x .w) l)) (afterV l)) (storeV x l) []
+  unfolding recoverDue recoverStep recoverNumber levelV standsIf stepped refuse
+  go-v x l f h = goes x (D.Recover (G.Number (M.V l))) f ∙ rw (lt-leb lanes l h)
 
-  go-empty : (x : Vault) → VaultFine x → op (going x D.RecoverEmpty) ≡ taking (inService (going x D.RecoverEmpty)) S.Empty []
-  unfolding recoverDue
-  go-empty x f = goes x D.RecoverEmpty f
+  go-empty : (x : Vault) → VaultFine x → op (going x (D.Recover G.Empty)) ≡ taking (inService (going x (D.Recover G.Empty))) S.Empty []
+  unfolding recoverDue recoverStep
+  go-empty x f = goes x (D.Recover G.Empty) f
 
   -- ---- from the last store back
 
-  names-empty : (x : Vault) → VaultFine x → Names op (going x D.RecoverEmpty) (S.Empty ∷ []) Serves
+  names-empty : (x : Vault) → VaultFine x → Names op (going x (D.Recover G.Empty)) (S.Empty ∷ []) Serves
   unfolding inService
   names-empty x f = names-more op Serves _ _ S.Empty [] [] (go-empty x f) (names-none op Serves _ (record { phase = refl; due = refl; journal = refl; points = refl }))
 
   -- V = W for the lanes that are left
-  names-v : (n l : ℕ) (x : Vault) → l + suc n ≡ lanes → VaultFine x → Names op (going x (D.RecoverV l)) (fromLane (storeV x) l (suc n) ++ (S.Empty ∷ [])) Serves
+  names-v : (n l : ℕ) (x : Vault) → l + suc n ≡ lanes → VaultFine x → Names op (going x (D.Recover (G.Number (M.V l)))) (fromLane (storeV x) l (suc n) ++ (S.Empty ∷ [])) Serves
   unfolding fromLane afterV
   names-v zero l x e f =
       let y = setV x l (at (x .w) l) in
-      names-more op Serves _ (going y D.RecoverEmpty) (storeV x l) [] (S.Empty ∷ [])
+      names-more op Serves _ (going y (D.Recover G.Empty)) (storeV x l) [] (S.Empty ∷ [])
       (go-v x l f (omega arith) ∙ rw (le-ltb (suc l) lanes (omega arith)))
       (names-empty y (fine-v-w x f l))
   names-v (suc n) l x e f =
       let y = setV x l (at (x .w) l) in
-      names-more op Serves _ (going y (D.RecoverV (suc l))) (storeV x l) [] (fromLane (storeV x) (suc l) (suc n) ++ (S.Empty ∷ []))
+      names-more op Serves _ (going y (D.Recover (G.Number (M.V (suc l))))) (storeV x l) [] (fromLane (storeV x) (suc l) (suc n) ++ (S.Empty ∷ []))
       (go-v x l f (omega arith) ∙ rw (lt-ltb (suc l) lanes (omega arith)))
       (names-v n (suc l) y (omega arith) (fine-v-w x f l))
 
   -- E + 1 and V = W where any W ≠ V; the log is emptied
-  names-last : (x : Vault) → VaultFine x → x .e < counterMax → Names op (going x (cond (allVisible x) D.RecoverEmpty D.RecoverEpoch)) (lastStores (not (allVisible x)) x) Serves
+  names-last : (x : Vault) → VaultFine x → x .e < counterMax → Names op (going x (D.Recover (cond (allVisible x) G.Empty (G.Number M.E)))) (lastStores (not (allVisible x)) x) Serves
   unfolding lastStores
   names-last x f h = by (allVisible x)
     where
-      by : (b : Bool) → Names op (going x (cond b D.RecoverEmpty D.RecoverEpoch)) (cond (not b) (S.E (suc (x .e)) ∷ eachLane (storeV x)) [] ++ (S.Empty ∷ [])) Serves
+      by : (b : Bool) → Names op (going x (D.Recover (cond b G.Empty (G.Number M.E)))) (cond (not b) (S.E (suc (x .e)) ∷ eachLane (storeV x)) [] ++ (S.Empty ∷ [])) Serves
       by true = names-empty x f
       by false = names-more op Serves _ _ (S.E (suc (x .e))) [] _ (go-epoch x f h) (names-v 7 0 (setE x (suc (x .e))) refl (fine-e x f h))
 
   -- R = W for the lanes that are left, and what follows
-  names-r : (n l : ℕ) (x : Vault) → l + suc n ≡ lanes → VaultFine x → x .e < counterMax → Names op (going x (D.RecoverR l)) (fromLane (storeR x) l (suc n) ++ lastStores (not (allVisible x)) x) Serves
+  names-r : (n l : ℕ) (x : Vault) → l + suc n ≡ lanes → VaultFine x → x .e < counterMax → Names op (going x (D.Recover (G.Number (M.R l)))) (fromLane (storeR x) l (suc n) ++ lastStores (not (allVisible x)) x) Serves
   unfolding fromLane afterR allVisible lastStores
   names-r zero l x e f h =
       let y = setR x l (at (x .w) l) in
-      names-more op Serves _ (going y (cond (allVisible y) D.RecoverEmpty D.RecoverEpoch)) (storeR x l) [] (lastStores (not (allVisible x)) x)
+      names-more op Serves _ (going y (D.Recover (cond (allVisible y) G.Empty (G.Number M.E)))) (storeR x l) [] (lastStores (not (allVisible x)) x)
       (go-r x l f (omega arith) ∙ rw (le-ltb (suc l) lanes (omega arith)))
       (names-last y (fine-r-w x f l) h)
   names-r (suc n) l x e f h =
       let y = setR x l (at (x .w) l) in
-      names-more op Serves _ (going y (D.RecoverR (suc l))) (storeR x l) [] (fromLane (storeR x) (suc l) (suc n) ++ lastStores (not (allVisible x)) x)
+      names-more op Serves _ (going y (D.Recover (G.Number (M.R (suc l))))) (storeR x l) [] (fromLane (storeR x) (suc l) (suc n) ++ lastStores (not (allVisible x)) x)
       (go-r x l f (omega arith) ∙ rw (lt-ltb (suc l) lanes (omega arith)))
       (names-r n (suc l) y (omega arith) (fine-r-w x f l) h)
 
   -- the file and S of a checkpoint, and what follows
   names-pair : (x : Vault) (second : Bool) (sts : List Store) → VaultFine x → x .s < counterMax → Names op (going (setS x (suc (x .s))) (afterVersion second)) sts Serves
-      → Names op (going x (D.RecoverFile second)) (S.File ∷ S.S (suc (x .s)) ∷ sts) Serves
+      → Names op (going x (D.Recover (G.File second))) (S.File ∷ S.S (suc (x .s)) ∷ sts) Serves
   names-pair x second sts f h k =
       names-more op Serves _ _ S.File _ _ (go-file x second f h) (names-more op Serves _ _ (S.S (suc (x .s))) [] sts (go-version x second f h) k)
 
   -- all that follows the first N
   names-rest : (x : Vault) → VaultFine x → x .s + 2 ≤ counterMax → x .n < counterMax → x .e < counterMax
-      → Names op (going x (D.RecoverFile false))
+      → Names op (going x (D.Recover (G.File false)))
       (S.File ∷ S.S (suc (x .s)) ∷ S.N (suc (x .n)) ∷ S.File ∷ S.S (suc (suc (x .s))) ∷ (eachLane (storeR x) ++ lastStores (not (allVisible x)) x)) Serves
   unfolding afterVersion lastStores allVisible
   names-rest x f hs hn he =
@@ -299,33 +287,33 @@ module _ (c : State) (position : ℕ) (p : Point) (found : findPoint position (p
   cuts x d f = rw (fine-state (withVault c x d) (record { vault = f; listed = listing; pointed = pointing }), serves)
 
   cut-r : (x : Vault) (l : ℕ) → VaultFine x → l < lanes
-      → cut (withVault c x (D.TruncateR l position)) ≡ taking (withVault c (setR x l (at (p .counts) l)) (afterTruncateR l position)) (storeCount l) []
-  unfolding truncateDue truncateNext truncateLane refuse
-  cut-r x l f h = cuts x (D.TruncateR l position) f ∙ rw (eq-eqb position position refl, found, lt-leb lanes l h)
+      → cut (withVault c x (D.Truncate position (L.R l))) ≡ taking (withVault c (setR x l (at (p .counts) l)) (afterTruncateR l position)) (storeCount l) []
+  unfolding truncateDue truncateStep truncateDelete truncateNext truncateLane refuse
+  cut-r x l f h = cuts x (D.Truncate position (L.R l)) f ∙ rw (eq-eqb position position refl, found, lt-leb lanes l h)
 
   cut-first : (x : Vault) → VaultFine x → p .covered ≡ true
-      → cut (withVault c x D.Nothing) ≡ taking (withVault c (setR x 0 (at (p .counts) 0)) (D.TruncateR 1 position)) (storeCount 0) []
+      → cut (withVault c x D.Nothing) ≡ taking (withVault c (setR x 0 (at (p .counts) 0)) (D.Truncate position (L.R 1))) (storeCount 0) []
   unfolding truncateDue truncateFirst uncovered truncateLane afterTruncateR refuse
   cut-first x f h = cuts x D.Nothing f ∙ rw (found, h)
 
-  names-delete : (x : Vault) → OnlyR (c .vault) x → VaultFine x → Names cut (withVault c x (D.TruncateDelete position)) (S.Delete (p .position) ∷ []) (Cut c position)
-  unfolding truncateDue droppedTo refuse
+  names-delete : (x : Vault) → OnlyR (c .vault) x → VaultFine x → Names cut (withVault c x (D.Truncate position L.Delete)) (S.Delete (p .position) ∷ []) (Cut c position)
+  unfolding truncateDue truncateStep truncateDelete droppedTo refuse
   names-delete x o f = rw (found-at position (pointsOf (c .points)) p found)
-      (names-more cut (Cut c position) _ (withPoints (withVault c x D.Nothing) (droppedTo (c .points) position) D.Nothing) (S.Delete position) [] [] (cuts x (D.TruncateDelete position) f ∙ rw (eq-eqb position position refl))
+      (names-more cut (Cut c position) _ (withPoints (withVault c x D.Nothing) (droppedTo (c .points) position) D.Nothing) (S.Delete position) [] [] (cuts x (D.Truncate position L.Delete) f ∙ rw (eq-eqb position position refl))
       (names-none cut (Cut c position) _ (record { due = refl; points = refl; vault = o; rest = record { phase = refl; table = refl; journal = refl; any = refl; newest = refl; held = refl; key = refl } })))
 
   -- R of the lanes that are left, and the deletion
   names-counts : (n l : ℕ) (x : Vault) → l + suc n ≡ lanes → OnlyR (c .vault) x → VaultFine x → ((i : ℕ) → i < lanes → at (p .counts) i ≤ at (x .v) i)
-      → Names cut (withVault c x (D.TruncateR l position)) (fromLane storeCount l (suc n) ++ (S.Delete (p .position) ∷ [])) (Cut c position)
+      → Names cut (withVault c x (D.Truncate position (L.R l))) (fromLane storeCount l (suc n) ++ (S.Delete (p .position) ∷ [])) (Cut c position)
   unfolding fromLane afterTruncateR
   names-counts zero l x e o f h =
       let y = setR x l (at (p .counts) l) in
-      names-more cut (Cut c position) _ (withVault c y (D.TruncateDelete position)) (storeCount l) [] (S.Delete (p .position) ∷ [])
+      names-more cut (Cut c position) _ (withVault c y (D.Truncate position L.Delete)) (storeCount l) [] (S.Delete (p .position) ∷ [])
       (cut-r x l f (omega arith) ∙ rw (le-ltb (suc l) lanes (omega arith)))
       (names-delete y (ap (λ (z : Vault). setR z l (at (p .counts) l)) o) (fine-r-count x f l (at (p .counts) l) (h l (omega arith))))
   names-counts (suc n) l x e o f h =
       let y = setR x l (at (p .counts) l) in
-      names-more cut (Cut c position) _ (withVault c y (D.TruncateR (suc l) position)) (storeCount l) [] (fromLane storeCount (suc l) (suc n) ++ (S.Delete (p .position) ∷ []))
+      names-more cut (Cut c position) _ (withVault c y (D.Truncate position (L.R (suc l)))) (storeCount l) [] (fromLane storeCount (suc l) (suc n) ++ (S.Delete (p .position) ∷ []))
       (cut-r x l f (omega arith) ∙ rw (lt-ltb (suc l) lanes (omega arith)))
       (names-counts n (suc l) y (omega arith) (ap (λ (z : Vault). setR z l (at (p .counts) l)) o) (fine-r-count x f l (at (p .counts) l) (h l (omega arith))) h)
 
@@ -339,7 +327,7 @@ truncate-tally c position p ok serves idle found covered below =
     let f = state-fine c ok in
     let e : withVault c (c .vault) D.Nothing ≡ c = ap (λ (d : Due). withVault c (c .vault) d) (sym idle) in
     let x = setR (c .vault) 0 (at (p .counts) 0) in
-    names-more (λ d. truncate d position) (Cut c position) c (withVault c x (D.TruncateR 1 position)) (S.R 0 (at (p .counts) 0)) [] _
+    names-more (λ d. truncate d position) (Cut c position) c (withVault c x (D.Truncate position (L.R 1))) (S.R 0 (at (p .counts) 0)) [] _
     (ap (λ (d : State). truncate d position) (sym e) ∙ cut-first c position p found serves (f .listed) (f .pointed) (c .vault) (f .vault) covered)
     (names-counts c position p found serves (f .listed) (f .pointed) 6 1 x refl refl (fine-r-count (c .vault) (f .vault) 0 (at (p .counts) 0) (below 0 (omega arith))) below)
 
@@ -355,25 +343,25 @@ module _ (c : State) (serves : c .phase ≡ F.Serving) (fine : StateFine c) (roo
   unfolding checkpoint refuse
   files x d f = rw (fine-state (withVault c x d) (record { vault = f; listed = fine .listed; pointed = fine .pointed }), serves)
 
-  file-number : (x : Vault) → VaultFine x → x .s < counterMax → x .n < counterMax → checkpoint (withVault c x D.Nothing) room ≡ taking (withVault c (setN x (suc (x .n))) D.File) (S.N (suc (x .n))) []
-  unfolding checkpointDue refuse
+  file-number : (x : Vault) → VaultFine x → x .s < counterMax → x .n < counterMax → checkpoint (withVault c x D.Nothing) room ≡ taking (withVault c (setN x (suc (x .n))) (D.Checkpoint K.File)) (S.N (suc (x .n))) []
+  unfolding checkpointDue checkpointFirst raiseN standsIf stepped refuse
   file-number x f hs hn = files x D.Nothing f ∙ rw (lt-leb counterMax (x .s) hs, lt-leb counterMax (x .n) hn)
 
-  file-bytes : (x : Vault) → VaultFine x → x .s < counterMax → checkpoint (withVault c x D.File) room ≡ taking (withVault c x D.Version) S.File (tableFile (withVault c x D.File))
-  unfolding checkpointDue refuse
-  file-bytes x f hs = files x D.File f ∙ rw (lt-leb counterMax (x .s) hs, le-ltb room fileLen long)
+  file-bytes : (x : Vault) → VaultFine x → x .s < counterMax → checkpoint (withVault c x (D.Checkpoint K.File)) room ≡ taking (withVault c x (D.Checkpoint K.Version)) S.File (tableFile (withVault c x (D.Checkpoint K.File)))
+  unfolding checkpointDue checkpointStep fileStep refuse
+  file-bytes x f hs = files x (D.Checkpoint K.File) f ∙ rw (lt-leb counterMax (x .s) hs, le-ltb room fileLen long)
 
-  file-version : (x : Vault) → VaultFine x → x .s < counterMax → checkpoint (withVault c x D.Version) room ≡ taking (checkpointed (withVault c x D.Version)) (S.S (suc (x .s))) []
-  unfolding checkpointDue refuse
-  file-version x f hs = files x D.Version f ∙ rw (lt-leb counterMax (x .s) hs)
+  file-version : (x : Vault) → VaultFine x → x .s < counterMax → checkpoint (withVault c x (D.Checkpoint K.Version)) room ≡ taking (checkpointed (withVault c x (D.Checkpoint K.Version))) (S.S (suc (x .s))) []
+  unfolding checkpointDue checkpointStep checkpointLast refuse
+  file-version x f hs = files x (D.Checkpoint K.Version) f ∙ rw (lt-leb counterMax (x .s) hs)
 
   -- "stores N + 1, the file of the whole table with version S + 1 and the raised N as seal number, then S + 1": the three states, one behind the other
   pub record Three : Type 0 where
-    pub first : checkpoint c room ≡ taking (withVault c (setN (c .vault) (suc (c .vault .n))) D.File) (S.N (suc (c .vault .n))) []
-    pub second : checkpoint (withVault c (setN (c .vault) (suc (c .vault .n))) D.File) room
-        ≡ taking (withVault c (setN (c .vault) (suc (c .vault .n))) D.Version) S.File (fileBytes (aesGcm (c .key)) (suc (c .vault .s)) (suc (c .vault .n)) (c .table))
-    pub third : checkpoint (withVault c (setN (c .vault) (suc (c .vault .n))) D.Version) room
-        ≡ taking (checkpointed (withVault c (setN (c .vault) (suc (c .vault .n))) D.Version)) (S.S (suc (c .vault .s))) []
+    pub first : checkpoint c room ≡ taking (withVault c (setN (c .vault) (suc (c .vault .n))) (D.Checkpoint K.File)) (S.N (suc (c .vault .n))) []
+    pub second : checkpoint (withVault c (setN (c .vault) (suc (c .vault .n))) (D.Checkpoint K.File)) room
+        ≡ taking (withVault c (setN (c .vault) (suc (c .vault .n))) (D.Checkpoint K.Version)) S.File (fileBytes (aesGcm (c .key)) (suc (c .vault .s)) (suc (c .vault .n)) (c .table))
+    pub third : checkpoint (withVault c (setN (c .vault) (suc (c .vault .n))) (D.Checkpoint K.Version)) room
+        ≡ taking (checkpointed (withVault c (setN (c .vault) (suc (c .vault .n))) (D.Checkpoint K.Version))) (S.S (suc (c .vault .s))) []
 
   pub checkpoint-three : c .due ≡ D.Nothing → c .vault .s < counterMax → c .vault .n < counterMax → Three
   unfolding tableFile
@@ -388,7 +376,7 @@ module _ (c : State) (serves : c .phase ≡ F.Serving) (fine : StateFine c) (roo
       }
 
   -- where what follows it holds of the state behind it
-  pub checkpoint-tally : (Q : State → Type 0) → Three → Q (checkpointed (withVault c (setN (c .vault) (suc (c .vault .n))) D.Version))
+  pub checkpoint-tally : (Q : State → Type 0) → Three → Q (checkpointed (withVault c (setN (c .vault) (suc (c .vault .n))) (D.Checkpoint K.Version)))
       → Names (λ d. checkpoint d room) c (checkpointStores (c .vault)) Q
       × (putBy (answers (λ d. checkpoint d room) 3 c) ≡ [] ∷ fileBytes (aesGcm (c .key)) (suc (c .vault .s)) (suc (c .vault .n)) (c .table) ∷ [] ∷ [])
   unfolding checkpointStores answers

@@ -2,7 +2,7 @@
 -- Assumes nothing.
 use Prim.Native.Nat.{ℕ, zero, suc, _-_, _≤_}
 use mathlib.Core.Path.{_≡_, refl, sym, ap, ap₂, subst, _∙_}
-use mathlib.Core.Bool.{true, false, cond, _&&_}
+use mathlib.Core.Bool.{Bool, true, false, cond, _&&_}
 use mathlib.Core.Option.{Option, none, some}
 use mathlib.Core.List.{List, [], _∷_, map, List·Memᴰ}
 use native.Mathlib.Omega.{arith}
@@ -22,7 +22,8 @@ use Rattle.protocol.specs.Vaults.{vaultOk}
 use Rattle.protocol.specs.States.{listed, pointsMax, valid, isNothing}
 use Rattle.protocol.specs.Said.{Said, refused, taken, Answered, refuse, taking}
 use Rattle.protocol.specs.Load.{keyLen, loaded, load}
-use Rattle.protocol.specs.Recover.{logMax, spent, recovered, recoverRead, recoverLog, recoverFile, otherVersion, recoverFrom, recoverFirst, recoverPhase, recover, inService}
+use Rattle.protocol.specs.Replay.{Read, orStop, replay}
+use Rattle.protocol.specs.Recover.{logMax, spent, recovered, otherVersion, readFile, readFrom, recoverRead, recoverFirst, recoverPhase, recover, inService}
 use Rattle.protocol.specs.LatestOf.{LatestOf}
 use Rattle.protocol.specs.History.{call, callRecover, World, Lasting, settled, done, bookAfter, afterSaid, afterAnswer, answer, answerOf, addsOf, next, isTaken, PutOut, Honest, faithfulLog, FaithfulFile}
 use Rattle.protocol.specs.Beside.{NotLower, longestLog, LogIsShort, NoStoreLowers, Beside}
@@ -64,7 +65,7 @@ serving-not-cold e = let z : _≡_ {A = ℕ} 0 1 = cc in omega arith
 
 warm : (c : State) (file log : List ℕ) (room : ℕ) → Warm (recover c file log room)
 unfolding recovered inService
-warm c file log room = walk-recover Warm c (λ n vs. tt) file log room (λ t. not-cold) (λ e x d st out f. not-cold (sym e ∙ f)) serving-not-cold
+warm c file log room = walk-recover Warm c (λ n vs k. tt) file log room (λ t. not-cold) (λ e x d st out f. not-cold (sym e ∙ f)) serving-not-cold
 
 module _ (key : List ℕ) where
   -- ---- the table
@@ -100,9 +101,15 @@ module _ (key : List ℕ) where
 
   -- ---- the faithful card
 
+  -- what is said where the reading is not stopped
+  past-stop : (c : State) (b : Bool) (n : ℕ) (vs : List ℕ) (r : Read) (x : Said) → b ≡ false → recoverRead c r .said ≡ x → recoverRead c (orStop b n vs r) .said ≡ x
+  unfolding orStop
+  past-stop c true n vs r x e f = clash e
+  past-stop c false n vs r x e f = f
+
   -- a faithful log is read to its end
-  live-log : (c : State) (d : Durable) (t : Table) → c .key ≡ key → Durably (At c d) → recoverLog c (laidOut key (recsOf (d .spots))) t .said ≡ taken (S.N (suc (c .vault .n))) 0
-  unfolding recoverLog recoverRead
+  live-log : (c : State) (d : Durable) (t : Table) → c .key ≡ key → Durably (At c d) → recoverRead c (replay (aesGcm (c .key)) (c .vault) t (laidOut key (recsOf (d .spots)))) .said ≡ taken (S.N (suc (c .vault .n))) 0
+  unfolding recoverRead
   live-log c d t kk i =
       let r = read-faithful key (c .vault) (i .card .top) (In (d .sealed))
       (λ y m a b. let w = i .book .whole (y .lane) (y .number) a b in let e : w .0 ≡ y = i .sealed .single (w .0) y (i .book .known (w .0) (w .1)) m (w .2) (w .3) in sym (ap (λ (x : Opened). x .epoch) e) ∙ w .4)
@@ -111,10 +118,10 @@ module _ (key : List ℕ) where
 
   -- and its checkpoint is that of a version that is asked for
   live-file : (c : State) (d : Durable) (a : Lasting) (s : ℕ) (file : List ℕ) → c .vault .s ≡ s → c .key ≡ key → Durably (At c d) → Apart key a d → FaithfulFile s (a .card) file
-      → recoverFrom c file (laidOut key (recsOf (d .spots))) .said ≡ taken (S.N (suc (c .vault .n))) 0
-  unfolding FaithfulFile recoverFrom recoverFile otherVersion
+      → recoverRead c (readFrom (aesGcm (c .key)) (c .vault) file (laidOut key (recsOf (d .spots)))) .said ≡ taken (S.N (suc (c .vault .n))) 0
+  unfolding FaithfulFile readFrom readFile otherVersion
   live-file c d a zero file q kk i h f =
-      rw (eq-eqb (c .vault .s) 0 q) (past-refuse _ c 9 (0 ∷ []) _ _ (rw f) (live-log c d emptyTable kk i))
+      rw (eq-eqb (c .vault .s) 0 q) (past-stop c _ 9 (0 ∷ []) _ _ (rw f) (live-log c d emptyTable kk i))
   live-file c d a (suc s) file q kk i h f =
       let m = mem-map (fileOf key) (d .cards) file (subst (λ (x : List (List ℕ)). List·Memᴰ file x) (h .files) (f .0)) in
       let g = m .0 in
@@ -124,7 +131,7 @@ module _ (key : List ℕ) where
       let v : versionOf file ≡ g .version = ap versionOf (m .2) ∙ version-is (aesGcm key) (g .version) (g .seal) (g .table) (omega (arith, fw .version)) in
       let e : g .version ≡ c .vault .s = sym v ∙ f .1 ∙ sym q in
       let nz : eqb (c .vault .s) 0 ≡ false = ne-eqb (c .vault .s) 0 (λ z. let y : suc s ≡ 0 = sym q ∙ z in absurd (omega arith)) in
-      rw (nz, o) (past-refuse _ c 12 [] _ _ (rw (eq-eqb (g .version) (c .vault .s) e)) (live-log c d (g .table) kk i))
+      rw (nz, o) (past-stop c _ 12 [] _ _ (rw (eq-eqb (g .version) (c .vault .s) e)) (live-log c d (g .table) kk i))
 
   cold-valid : (c : State) → vaultOk (c .vault) ≡ true → Cold key c (c .due) → (valid c && isNothing (c .due)) ≡ true
   unfolding valid

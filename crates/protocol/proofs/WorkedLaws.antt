@@ -37,10 +37,11 @@ use Rattle.protocol.specs.Load.{loaded, load}
 use Rattle.protocol.specs.Accept.{tooLow, listedMore, holding, accepted, accept, heldRecord, holds, seal}
 use Rattle.protocol.specs.Commit.{committed, commitOpened, commit, outOfTurn}
 use Rattle.protocol.specs.Point.{marksTo, marksOf, marksFrom, laneCount, unseenBelow, journalOf, countsAt, pointAt, pointsMore, pointed, point}
-use Rattle.protocol.specs.Checkpoint.{tableFile, coveredPoint, coveredPoints, checkpointed, checkpointDue, checkpoint}
-use Rattle.protocol.specs.Truncate.{pointsOf, findPoint, pointsAbove, droppedTo, afterTruncateR, truncateLane, uncovered, truncateFirst, truncateNext, truncateDue, truncate}
+use Rattle.protocol.specs.Steps.{standsIf, raiseS, raiseN, raiseE, levelR, levelV, stepped, tableFile, fileStep}
+use Rattle.protocol.specs.Checkpoint.{coveredPoint, coveredPoints, checkpointed, checkpointFirst, checkpointLast, checkpointStep, checkpointDue, checkpoint}
+use Rattle.protocol.specs.Truncate.{pointsOf, findPoint, pointsAbove, droppedTo, afterTruncateR, truncateLane, uncovered, truncateFirst, truncateNext, truncateDelete, truncateStep, truncateDue, truncate}
 use Rattle.protocol.specs.Replay.{stopped, reading, passedOver, orStop, behind, stepOpened, steps, missingFrom, orMissing, ended, replay}
-use Rattle.protocol.specs.Recover.{logMax, spent, recovered, recoverRead, recoverLog, recoverFile, recoverFrom, recoverFirst, afterVersion, allVisible, afterR, afterV, inService, recoverDue, recoverPhase, recover, otherVersion}
+use Rattle.protocol.specs.Recover.{logMax, spent, recovered, recoverRead, readFile, readFrom, recoverFirst, afterVersion, allVisible, afterR, afterV, recoverNumber, inService, recoverStep, recoverDue, recoverPhase, recover, otherVersion}
 use Rattle.protocol.specs.History.{Call, Event, call, cut, callLoad, callRecover, callAccept, callSeal, callCommit, callPoint, callCheckpoint, callTruncate, Placed, placedFrom, cardAfter, insertPlaced, inOrder, endToEnd, faithfulLog, FaithfulFile, vaultAfter, Sealing, Lasting, World, nothingPending, newLasting, newWorld, bookAfter, done, settled, sealedBy, withSealings, answerOf, firstAnswer, answer, addsOf, afterSaid, afterAnswer, next, run, PutOut, Honest, Premises}
 use Rattle.protocol.specs.Sheet.{number}
 use Rattle.protocol.specs.Worked.{text, shownEntry, oneReading, onlyRecord, recordOf, olderFile, newerFile, doubledLog, lastVault, cold, recovering, transacting, events, pointing, cutting, cutVault, thirdFile, fromThird, wholeLife, wholeVault, wholeState, shownAt, shownBy, wholeShown}
@@ -48,6 +49,9 @@ use Rattle.protocol.specs.declared.Vault.{Vault}
 use Rattle.protocol.specs.declared.Phase.the-variants as F
 use Rattle.protocol.specs.declared.Due.{Due}
 use Rattle.protocol.specs.declared.Due.the-variants as D
+use Rattle.protocol.specs.declared.TruncateStep.the-variants as L
+use Rattle.protocol.specs.declared.RecoverStep.the-variants as G
+use Rattle.protocol.specs.declared.RecoverNumber.the-variants as M
 use Rattle.protocol.specs.declared.Journal.{Journal}
 use Rattle.protocol.specs.declared.Points.{Points}
 use Rattle.protocol.specs.declared.Held.{Held}
@@ -260,11 +264,11 @@ module _ (key : List ℕ) where
 
   -- fifteen calls: N, a file, S; the same three again; R of the eight lanes; the log is emptied
   go-recovering : Goes newOne recovering (replicate 15 0) begun
-  unfolding run shownBy shownAt number newOne begun newLasting newVault loaded next answer answerOf addsOf afterAnswer afterSaid done cardAfter vaultAfter bookAfter withSealings sealedBy recover recoverPhase recoverFirst recoverFrom recoverLog recoverRead recovered recoverDue refuse valid vaultOk laneOk allBelow spent replay steps ended missingFrom orMissing afterVersion afterR allVisible inService tableFile
+  unfolding run shownBy shownAt number newOne begun newLasting newVault loaded next answer answerOf addsOf afterAnswer afterSaid done cardAfter vaultAfter bookAfter withSealings sealedBy recover recoverPhase recoverFirst readFrom orStop recoverRead recovered recoverDue recoverStep recoverNumber raiseS raiseN raiseE levelR levelV standsIf stepped fileStep refuse valid vaultOk laneOk allBelow spent replay steps ended missingFrom orMissing afterVersion afterR allVisible inService tableFile
   go-recovering =
-      recovers 6 [] (midst (first (numbers 0 0 0 0 1 2) [] [] []) (S.S 2) (numbers 0 0 0 0 2 2) (D.RecoverR 0) emptyTable) (λ f e. absurd (empty-file key f e)) refl refl
-      then recovers 4 [] (midst (first (numbers 0 0 0 0 2 2) [] [] []) (S.R 3 0) (numbers 0 0 0 0 2 2) (D.RecoverR 4) emptyTable) (λ f e. absurd (empty-file key f e)) refl refl
-      then recovers 4 [] (midst (first (numbers 0 0 0 0 2 2) [] [] []) (S.R 7 0) (numbers 0 0 0 0 2 2) D.RecoverEmpty emptyTable) (λ f e. absurd (empty-file key f e)) refl refl
+      recovers 6 [] (midst (first (numbers 0 0 0 0 1 2) [] [] []) (S.S 2) (numbers 0 0 0 0 2 2) (D.Recover (G.Number (M.R 0))) emptyTable) (λ f e. absurd (empty-file key f e)) refl refl
+      then recovers 4 [] (midst (first (numbers 0 0 0 0 2 2) [] [] []) (S.R 3 0) (numbers 0 0 0 0 2 2) (D.Recover (G.Number (M.R 4))) emptyTable) (λ f e. absurd (empty-file key f e)) refl refl
+      then recovers 4 [] (midst (first (numbers 0 0 0 0 2 2) [] [] []) (S.R 7 0) (numbers 0 0 0 0 2 2) (D.Recover G.Empty) emptyTable) (λ f e. absurd (empty-file key f e)) refl refl
       then recovers 1 [] begun (λ f e. absurd (empty-file key f e)) refl refl
 
   go-accept : Goes begun (call (callAccept text 0 10) ∷ []) (0 ∷ []) numbered
@@ -337,7 +341,7 @@ module _ (key : List ℕ) where
 
   -- recovery is accepted
   accepting : World
-  accepting = midst (third cutVault [] [] []) (S.N 4) (numbers 2 1 1 0 3 4) (D.RecoverFile false) oneReading
+  accepting = midst (third cutVault [] [] []) (S.N 4) (numbers 2 1 1 0 3 4) (D.Recover (G.File false)) oneReading
 
   -- with all five files stored
   abbrev fifth : Vault → Lasting
@@ -357,14 +361,14 @@ module _ (key : List ℕ) where
   go-refused = record { keeps = (tt, tt); shows = refl; ends = refl }
 
   go-checkpoint : Goes pointSet (replicate 3 (call (callCheckpoint fileLen))) (replicate 3 0) checkpointDone
-  unfolding run shownBy shownAt number Premises Honest pointSet checkpointDone onePoint next answer answerOf addsOf afterAnswer afterSaid done cardAfter vaultAfter bookAfter withSealings sealedBy checkpoint checkpointDue checkpointed tableFile valid vaultOk laneOk allBelow journalOf refuse
+  unfolding run shownBy shownAt number Premises Honest pointSet checkpointDone onePoint next answer answerOf addsOf afterAnswer afterSaid done cardAfter vaultAfter bookAfter withSealings sealedBy checkpoint checkpointDue checkpointFirst checkpointStep checkpointLast raiseN standsIf stepped fileStep checkpointed tableFile valid vaultOk laneOk allBelow journalOf refuse
   go-checkpoint = times 3 (callCheckpoint fileLen) checkpointDone (λ w h. tt) tt refl refl
 
   go-truncate : Goes checkpointDone (replicate 9 (call (callTruncate 20))) (replicate 9 0) truncated
-  unfolding run shownBy shownAt number Premises Honest checkpointDone truncating truncated onePoint next answer answerOf addsOf afterAnswer afterSaid done cardAfter vaultAfter bookAfter withSealings sealedBy truncate truncateDue truncateFirst truncateNext truncateLane afterTruncateR uncovered findPoint pointsOf coveredPoints coveredPoint valid vaultOk laneOk allBelow journalOf refuse
+  unfolding run shownBy shownAt number Premises Honest checkpointDone truncating truncated onePoint next answer answerOf addsOf afterAnswer afterSaid done cardAfter vaultAfter bookAfter withSealings sealedBy truncate truncateDue truncateStep truncateDelete truncateFirst truncateNext truncateLane afterTruncateR uncovered findPoint pointsOf coveredPoints coveredPoint valid vaultOk laneOk allBelow journalOf refuse
   go-truncate =
-      times 3 (callTruncate 20) (truncating (S.R 2 0) (D.TruncateR 3 20)) (λ w h. tt) tt refl refl
-      then times 3 (callTruncate 20) (truncating (S.R 5 0) (D.TruncateR 6 20)) (λ w h. tt) tt refl refl
+      times 3 (callTruncate 20) (truncating (S.R 2 0) (D.Truncate 20 (L.R 3))) (λ w h. tt) tt refl refl
+      then times 3 (callTruncate 20) (truncating (S.R 5 0) (D.Truncate 20 (L.R 6))) (λ w h. tt) tt refl refl
       then times 3 (callTruncate 20) truncated (λ w h. tt) tt refl refl
 
   -- the cut comes behind the store of W
@@ -379,7 +383,7 @@ module _ (key : List ℕ) where
       (record { canonical = entered-canonical emptyTable text 0 1 text-legal text-bytes (lit< tt) (omega arith) empty-canonical; version = omega arith; seal = omega arith })
 
   go-accepting : Goes (afterCut (some (loaded cutVault key))) (fromThird key ∷ []) (0 ∷ []) accepting
-  unfolding run shownBy shownAt number afterCut cutVault accepting loaded next answer answerOf addsOf afterAnswer afterSaid done cardAfter vaultAfter bookAfter withSealings sealedBy recover recoverPhase recoverFirst recoverFrom recoverFile otherVersion recoverLog recoverRead recovered refuse valid vaultOk laneOk allBelow spent replay steps ended missingFrom orMissing
+  unfolding run shownBy shownAt number afterCut cutVault accepting loaded next answer answerOf addsOf afterAnswer afterSaid done cardAfter vaultAfter bookAfter withSealings sealedBy recover recoverPhase recoverFirst readFrom readFile otherVersion recoverRead orStop recovered refuse valid vaultOk laneOk allBelow spent replay steps ended missingFrom orMissing
   go-accepting = recovers 1 (thirdFile key) accepting (λ f e. List·Memᴰ·head refl) (rw third-opens) (rw third-opens)
 
   -- a cut before its store is done breaks it
@@ -394,14 +398,14 @@ module _ (key : List ℕ) where
 
   -- the other twenty-three calls: a file, S; N, a file, S; R of the eight lanes; E; V of the eight lanes; the log is emptied
   go-completing : Goes accepting (replicate 23 (fromThird key)) (replicate 23 0) wholeWorld
-  unfolding run shownBy shownAt number cutVault accepting wholeWorld wholeVault wholeState next answer answerOf addsOf afterAnswer afterSaid done cardAfter vaultAfter bookAfter withSealings sealedBy recover recoverPhase recoverDue refuse valid vaultOk laneOk allBelow afterVersion afterR afterV allVisible inService tableFile
+  unfolding run shownBy shownAt number cutVault accepting wholeWorld wholeVault wholeState next answer answerOf addsOf afterAnswer afterSaid done cardAfter vaultAfter bookAfter withSealings sealedBy recover recoverPhase recoverDue recoverStep recoverNumber raiseS raiseN raiseE levelR levelV standsIf stepped fileStep refuse valid vaultOk laneOk allBelow afterVersion afterR afterV allVisible inService tableFile
   go-completing =
-      recovers 5 (thirdFile key) (midst (fifth (numbers 2 1 1 0 4 5)) (S.S 5) (numbers 2 1 1 0 5 5) (D.RecoverR 0) oneReading) (λ f e. List·Memᴰ·head refl) refl refl
-      then recovers 4 (thirdFile key) (midst (fifth (numbers 2 1 2 0 5 5)) (S.R 3 0) (numbers 2 1 2 0 5 5) (D.RecoverR 4) oneReading) (λ f e. third-out) refl refl
-      then recovers 4 (thirdFile key) (midst (fifth (numbers 2 1 2 0 5 5)) (S.R 7 0) (numbers 2 1 2 0 5 5) D.RecoverEpoch oneReading) (λ f e. third-out) refl refl
-      then recovers 1 (thirdFile key) (midst (fifth (numbers 2 1 2 0 5 5)) (S.E 1) (numbers 2 1 2 1 5 5) (D.RecoverV 0) oneReading) (λ f e. third-out) refl refl
-      then recovers 4 (thirdFile key) (midst (fifth (numbers 2 2 2 1 5 5)) (S.V 3 0) (numbers 2 2 2 1 5 5) (D.RecoverV 4) oneReading) (λ f e. third-out) refl refl
-      then recovers 4 (thirdFile key) (midst (fifth (numbers 2 2 2 1 5 5)) (S.V 7 0) (numbers 2 2 2 1 5 5) D.RecoverEmpty oneReading) (λ f e. third-out) refl refl
+      recovers 5 (thirdFile key) (midst (fifth (numbers 2 1 1 0 4 5)) (S.S 5) (numbers 2 1 1 0 5 5) (D.Recover (G.Number (M.R 0))) oneReading) (λ f e. List·Memᴰ·head refl) refl refl
+      then recovers 4 (thirdFile key) (midst (fifth (numbers 2 1 2 0 5 5)) (S.R 3 0) (numbers 2 1 2 0 5 5) (D.Recover (G.Number (M.R 4))) oneReading) (λ f e. third-out) refl refl
+      then recovers 4 (thirdFile key) (midst (fifth (numbers 2 1 2 0 5 5)) (S.R 7 0) (numbers 2 1 2 0 5 5) (D.Recover (G.Number M.E)) oneReading) (λ f e. third-out) refl refl
+      then recovers 1 (thirdFile key) (midst (fifth (numbers 2 1 2 0 5 5)) (S.E 1) (numbers 2 1 2 1 5 5) (D.Recover (G.Number (M.V 0))) oneReading) (λ f e. third-out) refl refl
+      then recovers 4 (thirdFile key) (midst (fifth (numbers 2 2 2 1 5 5)) (S.V 3 0) (numbers 2 2 2 1 5 5) (D.Recover (G.Number (M.V 4))) oneReading) (λ f e. third-out) refl refl
+      then recovers 4 (thirdFile key) (midst (fifth (numbers 2 2 2 1 5 5)) (S.V 7 0) (numbers 2 2 2 1 5 5) (D.Recover G.Empty) oneReading) (λ f e. third-out) refl refl
       then recovers 1 (thirdFile key) wholeWorld (λ f e. third-out) refl refl
 
   go-pointing : length key ≡ 16 → Goes newWorld (pointing key) (replicate 20 0) pointSet
@@ -551,11 +555,11 @@ module _ (key : List ℕ) where
 
   -- with the newer file it is for the log to say
   with-newer : (log : List ℕ) (room : ℕ) → length log ≤ logMax → recover (cold key) (newerFile key) log room ≡ recoverRead (cold key) (replay (aesGcm key) lastVault emptyTable log)
-  unfolding cold loaded lastVault recover recoverPhase recoverFirst recoverFrom recoverFile otherVersion recoverLog refuse valid vaultOk laneOk allBelow spent
+  unfolding cold loaded lastVault recover recoverPhase recoverFirst readFrom readFile otherVersion recoverRead orStop refuse valid vaultOk laneOk allBelow spent
   with-newer log room h = rw (le-ltb logMax (length log) h, newer-opens)
 
   with-older : (log : List ℕ) (room : ℕ) → length log ≤ logMax → recover (cold key) (olderFile key) log room ≡ refusing (cold key) 12 []
-  unfolding cold loaded lastVault recover recoverPhase recoverFirst recoverFrom recoverFile otherVersion refuse valid vaultOk laneOk allBelow spent
+  unfolding cold loaded lastVault recover recoverPhase recoverFirst readFrom readFile otherVersion recoverRead orStop refuse valid vaultOk laneOk allBelow spent
   with-older log room h = rw (le-ltb logMax (length log) h, older-opens)
 
   replay-one : replay (aesGcm key) lastVault emptyTable (recordOf key) ≡ reading (record { offset = 56; last = 1 ∷ replicate 7 0; table = entered emptyTable text 0 1 })

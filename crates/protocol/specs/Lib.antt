@@ -1,5 +1,6 @@
 -- The definitions of 01's operations, which contracts and theorems cite.
 -- Vaults: the 27 numbers. States: the state, and the rule for a handed one. Said: what a call answers, in 01's numbers.
+-- Steps: one store of an operation that takes several.
 -- Load, Accept (with Seal), Commit, Point, Checkpoint, Truncate, Replay (the log rules), Recover: the operations.
 -- Tally: the stores of the longer operations, in order. LatestOf: the latest of a book's writes. History: the list, the card and the premises.
 -- Since: what a list has used and set since service began. Claim: demand 3. Beside: what is said beside it.
@@ -7,6 +8,7 @@
 pub mod Vaults
 pub mod States
 pub mod Said
+pub mod Steps
 pub mod Load
 pub mod Accept
 pub mod Commit

@@ -13,19 +13,24 @@ use Rattle.octets.specs.Lists.{at}
 use Rattle.transaction.specs.Every.{allBelow}
 use Rattle.table.specs.declared.Table.{Table}
 use Rattle.table.specs.Table.{lanes, emptyTable}
-use Rattle.sealed.specs.Aead.{aesGcm}
-use Rattle.sealed.specs.Checkpoint.{fileLen, OpenedFile, openFile}
-use Rattle.protocol.specs.Vaults.{counterMax, setV, setR, setE, setS, setN}
-use Rattle.protocol.specs.States.{noJournal, noPoints, valid, isNothing, withVault}
+use Rattle.sealed.specs.Aead.{Aead, aesGcm}
+use Rattle.sealed.specs.Checkpoint.{OpenedFile, openFile}
+use Rattle.protocol.specs.Vaults.{counterMax, setN}
+use Rattle.protocol.specs.States.{noJournal, noPoints, valid, isNothing}
 use Rattle.protocol.specs.Said.{Answered, refuse, refusing, taking}
-use Rattle.protocol.specs.Checkpoint.{tableFile}
-use Rattle.protocol.specs.Replay.{Read, stopped, reading, replay}
+use Rattle.protocol.specs.Steps.{raiseS, raiseN, raiseE, levelR, levelV, stepped, fileStep}
+use Rattle.protocol.specs.Replay.{Read, stopped, reading, orStop, replay}
 use Rattle.protocol.specs.declared.Vault.{Vault}
 use Rattle.protocol.specs.declared.State.{State}
 use Rattle.protocol.specs.declared.Phase.{Phase}
 use Rattle.protocol.specs.declared.Phase.the-variants as F
 use Rattle.protocol.specs.declared.Due.{Due}
 use Rattle.protocol.specs.declared.Due.the-variants as D
+use Rattle.protocol.specs.declared.RecoverStep.{RecoverStep}
+use Rattle.protocol.specs.declared.RecoverStep.the-variants as G
+use Rattle.protocol.specs.declared.RecoverNumber.{RecoverNumber}
+use Rattle.protocol.specs.declared.RecoverNumber.the-variants as M
+use Rattle.protocol.specs.declared.Step.{Step}
 use Rattle.protocol.specs.declared.Store.the-variants as S
 
 abbrev pub logMax : ℕ
@@ -37,11 +42,26 @@ spent x = ltb counterMax (x .s + 2) || ltb counterMax (x .n + 2) || leb counterM
 
 -- ---- accepting
 
+-- the checkpoint's version is not S
+unfoldable pub otherVersion : Vault → OpenedFile → Bool
+otherVersion x f = not (eqb (f .version) (x .s))
+
+unfoldable pub readFile : Aead → Vault → List ℕ → Option OpenedFile → Read
+readFile a x log none = stopped 9 (0 ∷ [])
+readFile a x log (some f) = orStop (otherVersion x f) 12 [] (replay a x (f .table) log)
+
+-- the checkpoint and the log, read: while S is 0 the checkpoint is of length 0, and the table empty
+unfoldable pub readFrom : Aead → Vault → List ℕ → List ℕ → Read
+readFrom a x file log =
+    cond (eqb (x .s) 0)
+    (orStop (not (eqb (length file) 0)) 9 (0 ∷ []) (replay a x emptyTable log))
+    (readFile a x log (openFile a file))
+
 unfoldable pub recovered : State → Table → State
 recovered c t = record {
   vault = setN (c .vault) (suc (c .vault .n));
   phase = F.Recovering;
-  due = D.RecoverFile false;
+  due = D.Recover (G.File false);
   table = t;
   journal = c .journal;
   points = c .points;
@@ -53,45 +73,35 @@ unfoldable pub recoverRead : State → Read → Answered
 recoverRead c (stopped n vs) = refusing c n vs
 recoverRead c (reading g) = taking (recovered c (g .table)) (S.N (suc (c .vault .n))) []
 
-unfoldable pub recoverLog : State → List ℕ → Table → Answered
-recoverLog c log t = recoverRead c (replay (aesGcm (c .key)) (c .vault) t log)
-
--- the checkpoint's version is not S
-unfoldable pub otherVersion : State → OpenedFile → Bool
-otherVersion c f = not (eqb (f .version) (c .vault .s))
-
-unfoldable pub recoverFile : State → List ℕ → Option OpenedFile → Answered
-recoverFile c log none = refusing c 9 (0 ∷ [])
-recoverFile c log (some f) = refuse (otherVersion c f) c 12 [] (recoverLog c log (f .table))
-
--- while S is 0 the checkpoint is of length 0, and the table empty
-unfoldable pub recoverFrom : State → List ℕ → List ℕ → Answered
-recoverFrom c file log =
-    cond (eqb (c .vault .s) 0)
-    (refuse (not (eqb (length file) 0)) c 9 (0 ∷ []) (recoverLog c log emptyTable))
-    (recoverFile c log (openFile (aesGcm (c .key)) file))
-
 unfoldable pub recoverFirst : State → List ℕ → List ℕ → Answered
 recoverFirst c file log =
     refuse (not (valid c && isNothing (c .due))) c 1 []
     (refuse (ltb logMax (length log)) c 3 (logMax ∷ [])
     (refuse (spent (c .vault)) c 8 []
-    (recoverFrom c file log)))
+    (recoverRead c (readFrom (aesGcm (c .key)) (c .vault) file log))))
 
 -- ---- going on
 
 unfoldable pub afterVersion : Bool → Due
-afterVersion second = cond second (D.RecoverR 0) D.RecoverSeal
+afterVersion second = D.Recover (G.Number (cond second (M.R 0) M.N))
 
 -- behind R of a lane: the next lane, and behind the last E if any W ≠ V
 unfoldable pub allVisible : Vault → Bool
 allVisible x = allBelow (λ i. eqb (at (x .w) i) (at (x .v) i)) lanes
 
 unfoldable pub afterR : Vault → ℕ → Due
-afterR x lane = cond (ltb (suc lane) lanes) (D.RecoverR (suc lane)) (cond (allVisible x) D.RecoverEmpty D.RecoverEpoch)
+afterR x lane = D.Recover (cond (ltb (suc lane) lanes) (G.Number (M.R (suc lane))) (cond (allVisible x) G.Empty (G.Number M.E)))
 
 unfoldable pub afterV : ℕ → Due
-afterV lane = cond (ltb (suc lane) lanes) (D.RecoverV (suc lane)) D.RecoverEmpty
+afterV lane = D.Recover (cond (ltb (suc lane) lanes) (G.Number (M.V (suc lane))) G.Empty)
+
+-- the step of a vault number
+unfoldable pub recoverNumber : Vault → RecoverNumber → Step
+recoverNumber x (M.S second) = raiseS x (afterVersion second)
+recoverNumber x M.N = raiseN x (D.Recover (G.File true))
+recoverNumber x (M.R lane) = levelR x lane (afterR x lane)
+recoverNumber x M.E = raiseE x (D.Recover (G.Number (M.V 0)))
+recoverNumber x (M.V lane) = levelV x lane (afterV lane)
 
 unfoldable pub inService : State → State
 inService c = record {
@@ -105,34 +115,17 @@ inService c = record {
   key = c .key;
 }
 
--- a number at the maximum already, or a lane above 7, is turned down with 1: no call left such a state
+unfoldable pub recoverStep : State → ℕ → RecoverStep → Answered
+recoverStep c room (G.File second) = fileStep c room (D.Recover (G.Number (M.S second)))
+recoverStep c room (G.Number number) = stepped c (recoverNumber (c .vault) number)
+recoverStep c room G.Empty = taking (inService c) S.Empty []
+
 unfoldable pub recoverDue : State → ℕ → Due → Answered
-recoverDue c room (D.RecoverFile second) =
-    refuse (leb counterMax (c .vault .s)) c 1 []
-    (refuse (ltb room fileLen) c 3 (fileLen ∷ [])
-    (taking (withVault c (c .vault) (D.RecoverVersion second)) S.File (tableFile c)))
-recoverDue c room (D.RecoverVersion second) =
-    refuse (leb counterMax (c .vault .s)) c 1 []
-    (taking (withVault c (setS (c .vault) (suc (c .vault .s))) (afterVersion second)) (S.S (suc (c .vault .s))) [])
-recoverDue c room D.RecoverSeal =
-    refuse (leb counterMax (c .vault .n)) c 1 []
-    (taking (withVault c (setN (c .vault) (suc (c .vault .n))) (D.RecoverFile true)) (S.N (suc (c .vault .n))) [])
-recoverDue c room (D.RecoverR lane) =
-    refuse (leb lanes lane) c 1 []
-    (taking (withVault c (setR (c .vault) lane (at (c .vault .w) lane)) (afterR (c .vault) lane)) (S.R lane (at (c .vault .w) lane)) [])
-recoverDue c room D.RecoverEpoch =
-    refuse (leb counterMax (c .vault .e)) c 1 []
-    (taking (withVault c (setE (c .vault) (suc (c .vault .e))) (D.RecoverV 0)) (S.E (suc (c .vault .e))) [])
-recoverDue c room (D.RecoverV lane) =
-    refuse (leb lanes lane) c 1 []
-    (taking (withVault c (setV (c .vault) lane (at (c .vault .w) lane)) (afterV lane)) (S.V lane (at (c .vault .w) lane)) [])
-recoverDue c room D.RecoverEmpty = taking (inService c) S.Empty []
+recoverDue c room (D.Recover step) = recoverStep c room step
 recoverDue c room D.Nothing = refusing c 1 []
 recoverDue c room D.Record = refusing c 1 []
-recoverDue c room D.File = refusing c 1 []
-recoverDue c room D.Version = refusing c 1 []
-recoverDue c room (D.TruncateR l p) = refusing c 1 []
-recoverDue c room (D.TruncateDelete p) = refusing c 1 []
+recoverDue c room (D.Checkpoint step) = refusing c 1 []
+recoverDue c room (D.Truncate position step) = refusing c 1 []
 
 unfoldable pub recoverPhase : State → List ℕ → List ℕ → ℕ → Phase → Answered
 recoverPhase c file log room F.Cold = recoverFirst c file log

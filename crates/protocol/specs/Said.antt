@@ -36,6 +36,12 @@ refuse false c n vs other = other
 
 -- ---- the code's answer, in these terms
 
+abbrev pub refusedWith : State → Refusal → Answer
+refusedWith c why = record { state = c; outcome = O.Refused why }
+
+abbrev pub takenWith : State → Store → ℕ → Answer
+takenWith c store len = record { state = c; outcome = O.Taken store len }
+
 unfoldable pub numberOf : Refusal → ℕ
 numberOf R.Condition = 1
 numberOf R.Numbers = 2

@@ -50,9 +50,13 @@ withPoints c p d = record { vault = c .vault; phase = c .phase; due = d; table =
 
 -- ---- the rule for a handed state
 
--- "A handed state that breaks Load's rule or the maximum, or lists more than 128 records .. or 8 points, is refused with 1."
+-- "A handed state that breaks Load's rule or the maximum, or lists more than 128 records .. or 8 points, is refused with 1": over the parts that it
+-- looks at
+abbrev pub validBy : Vault → ℕ → ℕ → Bool
+validBy x records points = vaultOk x && leb records listed && leb points pointsMax
+
 unfoldable pub valid : State → Bool
-valid c = vaultOk (c .vault) && leb (c .journal .count) listed && leb (c .points .count) pointsMax
+valid c = validBy (c .vault) (c .journal .count) (c .points .count)
 
 abbrev pub serving : Phase → Bool
 serving F.Cold = false
@@ -62,21 +66,16 @@ serving F.Serving = true
 abbrev pub isNothing : Due → Bool
 isNothing D.Nothing = true
 isNothing D.Record = false
-isNothing D.File = false
-isNothing D.Version = false
-isNothing (D.TruncateR l p) = false
-isNothing (D.TruncateDelete p) = false
-isNothing (D.RecoverFile b) = false
-isNothing (D.RecoverVersion b) = false
-isNothing D.RecoverSeal = false
-isNothing (D.RecoverR l) = false
-isNothing D.RecoverEpoch = false
-isNothing (D.RecoverV l) = false
-isNothing D.RecoverEmpty = false
+isNothing (D.Checkpoint step) = false
+isNothing (D.Truncate position step) = false
+isNothing (D.Recover step) = false
 
 -- a valid collector in service with no store due
+abbrev pub readyBy : Vault → Phase → Due → ℕ → ℕ → Bool
+readyBy x phase due records points = validBy x records points && serving phase && isNothing due
+
 unfoldable pub ready : State → Bool
-ready c = valid c && serving (c .phase) && isNothing (c .due)
+ready c = readyBy (c .vault) (c .phase) (c .due) (c .journal .count) (c .points .count)
 
 -- the transaction held
 abbrev pub heldText : State → List ℕ

@@ -17,6 +17,8 @@ use Rattle.protocol.specs.declared.Points.{Points}
 use Rattle.protocol.specs.declared.State.{State}
 use Rattle.protocol.specs.declared.Due.{Due}
 use Rattle.protocol.specs.declared.Due.the-variants as D
+use Rattle.protocol.specs.declared.TruncateStep.{TruncateStep}
+use Rattle.protocol.specs.declared.TruncateStep.the-variants as L
 use Rattle.protocol.specs.declared.Store.the-variants as S
 
 unfoldable pub pointsOf : Points → List Point
@@ -41,7 +43,7 @@ droppedTo p position = record {
 
 -- the store that is due behind R of a lane
 unfoldable pub afterTruncateR : ℕ → ℕ → Due
-afterTruncateR lane position = cond (ltb (suc lane) lanes) (D.TruncateR (suc lane) position) (D.TruncateDelete position)
+afterTruncateR lane position = D.Truncate position (cond (ltb (suc lane) lanes) (L.R (suc lane)) L.Delete)
 
 unfoldable pub truncateLane : State → ℕ → ℕ → Point → Answered
 truncateLane c position lane p =
@@ -60,20 +62,20 @@ unfoldable pub truncateNext : State → ℕ → ℕ → Option Point → Answere
 truncateNext c position lane none = refusing c 1 []
 truncateNext c position lane (some p) = refuse (leb lanes lane) c 1 [] (truncateLane c position lane p)
 
+-- the deletion, with the points above the position
+unfoldable pub truncateDelete : State → ℕ → Answered
+truncateDelete c position = taking (withPoints c (droppedTo (c .points) position) D.Nothing) (S.Delete position) []
+
+unfoldable pub truncateStep : State → ℕ → TruncateStep → Answered
+truncateStep c position (L.R lane) = truncateNext c position lane (findPoint position (pointsOf (c .points)))
+truncateStep c position L.Delete = truncateDelete c position
+
 unfoldable pub truncateDue : State → ℕ → Due → Answered
 truncateDue c position D.Nothing = truncateFirst c position (findPoint position (pointsOf (c .points)))
-truncateDue c position (D.TruncateR lane p) = refuse (not (eqb p position)) c 1 [] (truncateNext c position lane (findPoint position (pointsOf (c .points))))
-truncateDue c position (D.TruncateDelete p) = refuse (not (eqb p position)) c 1 [] (taking (withPoints c (droppedTo (c .points) position) D.Nothing) (S.Delete position) [])
+truncateDue c position (D.Truncate p step) = refuse (not (eqb p position)) c 1 [] (truncateStep c position step)
 truncateDue c position D.Record = refusing c 1 []
-truncateDue c position D.File = refusing c 1 []
-truncateDue c position D.Version = refusing c 1 []
-truncateDue c position (D.RecoverFile b) = refusing c 1 []
-truncateDue c position (D.RecoverVersion b) = refusing c 1 []
-truncateDue c position D.RecoverSeal = refusing c 1 []
-truncateDue c position (D.RecoverR l) = refusing c 1 []
-truncateDue c position D.RecoverEpoch = refusing c 1 []
-truncateDue c position (D.RecoverV l) = refusing c 1 []
-truncateDue c position D.RecoverEmpty = refusing c 1 []
+truncateDue c position (D.Checkpoint step) = refusing c 1 []
+truncateDue c position (D.Recover step) = refusing c 1 []
 
 unfoldable pub truncate : State → ℕ → Answered
 truncate c position = refuse (not (valid c && serving (c .phase))) c 1 [] (truncateDue c position (c .due))

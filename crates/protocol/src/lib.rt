@@ -23,26 +23,43 @@ pub enum Phase {
     Serving,
 }
 
-// The single store that is due.
+// The single store that is due, by the operation that it belongs to.
 pub enum Due {
     Nothing,
     // Accept: the record of the transaction held.
     Record,
-    // Checkpoint: the file, then S.
+    Checkpoint { step: CheckpointStep },
+    // Truncate at a position.
+    Truncate { position: u64, step: TruncateStep },
+    Recover { step: RecoverStep },
+}
+
+// Behind N: the file, then S.
+pub enum CheckpointStep {
     File,
     Version,
-    // Truncate at a position: R of a lane, then the deletion.
-    TruncateR { lane: u8, position: u64 },
-    TruncateDelete { position: u64 },
-    // Recover: the file and S of its first or second checkpoint, the second N, R of a lane, E, V of a lane, emptying the
-    // log.
-    RecoverFile { second: bool },
-    RecoverVersion { second: bool },
-    RecoverSeal,
-    RecoverR { lane: u8 },
-    RecoverEpoch,
-    RecoverV { lane: u8 },
-    RecoverEmpty,
+}
+
+// R of a lane, then the deletion.
+pub enum TruncateStep {
+    R { lane: u8 },
+    Delete,
+}
+
+// Behind the first N: the file of the first or second checkpoint, a vault number, emptying the log.
+pub enum RecoverStep {
+    File { second: bool },
+    Number { number: RecoverNumber },
+    Empty,
+}
+
+// S of the first or second checkpoint, the second N, R of a lane, E, V of a lane.
+pub enum RecoverNumber {
+    S { second: bool },
+    N,
+    R { lane: u8 },
+    E,
+    V { lane: u8 },
 }
 
 // The accepted records at or above the newest point, in the order of their positions, and the last position used.
@@ -105,6 +122,15 @@ pub enum Store {
     File,
     Delete { position: u64 },
     Empty,
+}
+
+// The step of a vault number: whether it can be set, the vault's numbers behind it, the store that is due next, and the
+// store named. One that cannot be set leaves the numbers as they are.
+pub struct Step {
+    pub goes: bool,
+    pub vault: Vault,
+    pub due: Due,
+    pub store: Store,
 }
 
 // Why a call is turned down.

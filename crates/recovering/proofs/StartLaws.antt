@@ -24,25 +24,24 @@ use Rattle.sealed.specs.declared.file.FileHead.the-variants as H
 use Rattle.sealed.specs.declared.file.FileRead.{FileRead}
 use Rattle.sealed.proofs.FileLaws.{prepared-file}
 use Rattle.protocol.specs.Vaults.{counterMax, setN}
-use Rattle.protocol.specs.States.{valid, isNothing}
-use Rattle.protocol.specs.Said.{refuse, numberOf, valuesOf, shown, shownAs}
+use Rattle.protocol.specs.States.{valid, isNothing, validBy}
+use Rattle.protocol.specs.Said.{refuse, numberOf, valuesOf, shown, shownAs, refusedWith, takenWith}
 use Rattle.protocol.specs.Replay.{Read, stopped, orStop, replay}
-use Rattle.protocol.specs.Recover.{logMax, spent, recovered, recoverRead, recoverLog, otherVersion, recoverFile, recoverFrom, recoverFirst}
+use Rattle.protocol.specs.Recover.{logMax, spent, otherVersion, readFile, readFrom, recovered, recoverRead, recoverFirst}
 use Rattle.protocol.specs.declared.Vault.{Vault}
 use Rattle.protocol.specs.declared.State.{State}
 use Rattle.protocol.specs.declared.Answer.{Answer}
 use Rattle.protocol.specs.declared.Phase.the-variants as F
 use Rattle.protocol.specs.declared.Due.the-variants as D
+use Rattle.protocol.specs.declared.RecoverStep.the-variants as G
 use Rattle.protocol.specs.declared.Store.the-variants as S
 use Rattle.protocol.specs.declared.Refusal.{Refusal}
 use Rattle.protocol.specs.declared.Refusal.the-variants as R
-use Rattle.state.specs.Parts.{validBy, refusedWith, takenWith}
 use Rattle.replay.specs.Rules.{readOf}
 use Rattle.replay.specs.declared.LogEnd.the-variants as E
 use Rattle.replay.specs.declared.LogRead.{LogRead}
 use Rattle.replay.proofs.AnswerLaws.{read-stands, read-stopped}
 use Rattle.replay.proofs.KeyLaws.{prepared-replay}
-use Rattle.recovering.specs.From.{readFile, readFrom}
 
 -- ---- a spent counter
 
@@ -103,11 +102,11 @@ module _ (a : Aead) (x : Vault) (file log : List ℕ) {d : Read} where
 
     module _ {version seal : ℕ} (h : f .head ≡ H.File version seal) where
       pub from-other : (version ≡ x .s → ⊥) → d ≡ stopped (numberOf R.Version) (valuesOf R.Version) → d ≡ readFrom a x file log
-      unfolding readFrom readFile orStop numberOf valuesOf
+      unfolding readFrom readFile otherVersion orStop numberOf valuesOf
       from-other n e = e ∙ rw (ne-eqb (x .s) 0 there, file-opens (openFile a file) f ef h, ne-eqb version (x .s) n)
 
       pub from-file : version ≡ x .s → d ≡ replay a x (f .table) log → d ≡ readFrom a x file log
-      unfolding readFrom readFile orStop
+      unfolding readFrom readFile otherVersion orStop
       from-file n e = e ∙ rw (ne-eqb (x .s) 0 there, file-opens (openFile a file) f ef h, eq-eqb version (x .s) n)
 
 -- under a prepared key it is what is read under the key
@@ -118,7 +117,7 @@ module _ (key : List ℕ) (x : Vault) (file log : List ℕ) where
   same-file : (o : Option OpenedFile) → readFile ready x log o ≡ readFile (aesGcm key) x log o
   unfolding readFile
   same-file none = refl
-  same-file (some f) = ap (orStop (not (eqb (f .version) (x .s))) 12 []) (prepared-replay key x (f .table) log)
+  same-file (some f) = ap (orStop (otherVersion x f) 12 []) (prepared-replay key x (f .table) log)
 
   prepared-from : readFrom ready x file log ≡ readFrom (aesGcm key) x file log
   unfolding readFrom
@@ -134,28 +133,6 @@ module _ (key : List ℕ) (x : Vault) (file log : List ℕ) where
 module _ (c : State) (file log : List ℕ) where
   abbrev a : Aead
   a = aesGcm (c .key)
-
-  by-version : (b : Bool) (t : Table) → refuse b c 12 [] (recoverLog c log t) ≡ recoverRead c (orStop b 12 [] (replay a (c .vault) t log))
-  unfolding refuse orStop recoverRead recoverLog
-  by-version true t = refl
-  by-version false t = refl
-
-  by-file : (o : Option OpenedFile) → recoverFile c log o ≡ recoverRead c (readFile a (c .vault) log o)
-  unfolding recoverFile readFile otherVersion recoverRead
-  by-file none = refl
-  by-file (some f) = by-version (not (eqb (f .version) (c .vault .s))) (f .table)
-
-  by-zero : (b d : Bool) (o : Option OpenedFile)
-      → cond b (refuse d c 9 (0 ∷ []) (recoverLog c log emptyTable)) (recoverFile c log o)
-      ≡ recoverRead c (cond b (orStop d 9 (0 ∷ []) (replay a (c .vault) emptyTable log)) (readFile a (c .vault) log o))
-  unfolding refuse orStop recoverRead recoverLog
-  by-zero true true o = refl
-  by-zero true false o = refl
-  by-zero false d o = by-file o
-
-  from-is : recoverFrom c file log ≡ recoverRead c (readFrom a (c .vault) file log)
-  unfolding recoverFrom readFrom
-  from-is = by-zero (eqb (c .vault .s) 0) (not (eqb (length file) 0)) (openFile a file)
 
   -- what the code answers on a way out
   abbrev pub Answers : Answer → Type 0
@@ -182,7 +159,7 @@ module _ (c : State) (file log : List ℕ) where
         module _ (left : s ≡ false) (r : LogRead) (er : readOf r ≡ readFrom a (c .vault) file log) where
           first-is : recoverFirst c file log ≡ recoverRead c (readFrom a (c .vault) file log)
           unfolding recoverFirst valid refuse
-          first-is = rw (← q, ← f, good, le-ltb logMax (length log) fits, ← e, left) from-is
+          first-is = rw (← q, ← f, good, le-ltb logMax (length log) fits, ← e, left)
 
           pub first-stopped : {why : Refusal} → r .end ≡ E.Stopped why → Answers (refusedWith c why)
           unfolding recoverRead shownAs shown
@@ -190,6 +167,6 @@ module _ (c : State) (file log : List ℕ) where
 
           -- x is the vault with N raised
           pub first-taken : r .end ≡ E.Read → (x : Vault) → x ≡ setN (c .vault) (c .vault .n + 1)
-              → Answers (takenWith (record { vault = x; phase = F.Recovering; due = D.RecoverFile false; table = r .table; journal = c .journal; points = c .points; held = c .held; key = c .key }) (S.N (c .vault .n + 1)) 0)
+              → Answers (takenWith (record { vault = x; phase = F.Recovering; due = D.Recover (G.File false); table = r .table; journal = c .journal; points = c .points; held = c .held; key = c .key }) (S.N (c .vault .n + 1)) 0)
           unfolding recoverRead recovered shownAs shown
           first-taken h x ex = rw (ex, add-one (c .vault .n)) (sym (first-is ∙ ap (recoverRead c) (read-stands r er h)))

@@ -5,11 +5,12 @@ ghost use lib.ListN.{length};
 ghost use Rattle.octets.specs.Lists.{putOver};
 ghost use Rattle.protocol.specs.Said.{shownAs};
 ghost use Rattle.protocol.specs.Recover.{recover};
-use go_on::Part;
 use protocol::Answer;
 use protocol::Due;
 use protocol::Outcome;
 use protocol::Phase;
+use protocol::RecoverNumber;
+use protocol::RecoverStep;
 use protocol::Refusal;
 use protocol::State;
 use protocol::Store;
@@ -17,8 +18,8 @@ use replay::LogEnd;
 use sealed::file::FILE_LEN;
 use vault::COUNTER_MAX;
 
-pub mod go_on;
-pub mod start;
+mod go_on;
+mod start;
 
 // The most bytes of a log.
 pub const LOG_MAX: usize = 262144;
@@ -65,7 +66,9 @@ pub fn recover(c: State, checkpoint: &[u8], log: &[u8], out: &mut [u8]) -> Answe
                     let state = State {
                         vault: raised,
                         phase: Phase::Recovering,
-                        due: Due::RecoverFile { second: false },
+                        due: Due::Recover {
+                            step: RecoverStep::File { second: false },
+                        },
                         table,
                         journal,
                         points,
@@ -85,9 +88,11 @@ pub fn recover(c: State, checkpoint: &[u8], log: &[u8], out: &mut [u8]) -> Answe
             if !fine {
                 return state::refused(c, Refusal::Condition);
             }
-            let part = go_on::part_of(due);
-            match part {
-                Part::File { second } => {
+            let Due::Recover { step } = due else {
+                return state::refused(c, Refusal::Condition);
+            };
+            match step {
+                RecoverStep::File { second } => {
                     let s = x.s;
                     if COUNTER_MAX <= s {
                         return state::refused(c, Refusal::Condition);
@@ -99,14 +104,17 @@ pub fn recover(c: State, checkpoint: &[u8], log: &[u8], out: &mut [u8]) -> Answe
                     let t = c.table;
                     let version = s + 1;
                     let seal = x.n;
-                    checkpoint_steps::put_table(key, version, seal, t, out);
+                    steps::put_table(key, version, seal, t, out);
                     let journal = c.journal;
                     let points = c.points;
                     let held = c.held;
+                    let number = RecoverNumber::S { second };
                     let state = State {
                         vault: x,
                         phase,
-                        due: Due::RecoverVersion { second },
+                        due: Due::Recover {
+                            step: RecoverStep::Number { number },
+                        },
                         table: t,
                         journal,
                         points,
@@ -119,7 +127,34 @@ pub fn recover(c: State, checkpoint: &[u8], log: &[u8], out: &mut [u8]) -> Answe
                     };
                     Answer { state, outcome }
                 }
-                Part::Empty => {
+                RecoverStep::Number { number } => {
+                    let set = go_on::number_step(x, number);
+                    let goes = set.goes;
+                    if !goes {
+                        return state::refused(c, Refusal::Condition);
+                    }
+                    let vault = set.vault;
+                    let next = set.due;
+                    let store = set.store;
+                    let table = c.table;
+                    let journal = c.journal;
+                    let points = c.points;
+                    let held = c.held;
+                    let key = c.key;
+                    let state = State {
+                        vault,
+                        phase,
+                        due: next,
+                        table,
+                        journal,
+                        points,
+                        held,
+                        key,
+                    };
+                    let outcome = Outcome::Taken { store, len: 0 };
+                    Answer { state, outcome }
+                }
+                RecoverStep::Empty => {
                     let table = c.table;
                     let journal = journal::no_journal();
                     let points = journal::no_points();
@@ -138,28 +173,6 @@ pub fn recover(c: State, checkpoint: &[u8], log: &[u8], out: &mut [u8]) -> Answe
                     let outcome = Outcome::Taken {
                         store: Store::Empty,
                         len: 0,
-                    };
-                    Answer { state, outcome }
-                }
-                Part::Number => {
-                    let step = go_on::number_step(x, due);
-                    let vault = step.vault;
-                    let next = step.due;
-                    let outcome = step.outcome;
-                    let table = c.table;
-                    let journal = c.journal;
-                    let points = c.points;
-                    let held = c.held;
-                    let key = c.key;
-                    let state = State {
-                        vault,
-                        phase,
-                        due: next,
-                        table,
-                        journal,
-                        points,
-                        held,
-                        key,
                     };
                     Answer { state, outcome }
                 }

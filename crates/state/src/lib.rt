@@ -3,9 +3,9 @@
 // The tests take the parts of a state that they look at and not the whole of it: a state is some 8 KB, and passing it is
 // copying it.
 ghost use mathlib.Core.Path.{_≡_};
-ghost use Rattle.protocol.specs.States.{serving, isNothing, withVault};
+ghost use Rattle.protocol.specs.States.{serving, isNothing, withVault, validBy, readyBy};
+ghost use Rattle.protocol.specs.Said.{refusedWith, takenWith};
 ghost use Rattle.protocol.specs.Accept.{isRecord};
-ghost use Rattle.state.specs.Parts.{validBy, readyBy, refusedWith, takenWith};
 use journal::LISTED;
 use journal::POINTS;
 use protocol::Answer;
@@ -35,17 +35,9 @@ pub fn is_nothing(due: Due) -> bool
     match due {
         Due::Nothing => true,
         Due::Record => false,
-        Due::File => false,
-        Due::Version => false,
-        Due::TruncateR { lane, position } => false,
-        Due::TruncateDelete { position } => false,
-        Due::RecoverFile { second } => false,
-        Due::RecoverVersion { second } => false,
-        Due::RecoverSeal => false,
-        Due::RecoverR { lane } => false,
-        Due::RecoverEpoch => false,
-        Due::RecoverV { lane } => false,
-        Due::RecoverEmpty => false,
+        Due::Checkpoint { step } => false,
+        Due::Truncate { position, step } => false,
+        Due::Recover { step } => false,
     }
 }
 
@@ -56,17 +48,9 @@ pub fn is_record(due: Due) -> bool
     match due {
         Due::Nothing => false,
         Due::Record => true,
-        Due::File => false,
-        Due::Version => false,
-        Due::TruncateR { lane, position } => false,
-        Due::TruncateDelete { position } => false,
-        Due::RecoverFile { second } => false,
-        Due::RecoverVersion { second } => false,
-        Due::RecoverSeal => false,
-        Due::RecoverR { lane } => false,
-        Due::RecoverEpoch => false,
-        Due::RecoverV { lane } => false,
-        Due::RecoverEmpty => false,
+        Due::Checkpoint { step } => false,
+        Due::Truncate { position, step } => false,
+        Due::Recover { step } => false,
     }
 }
 

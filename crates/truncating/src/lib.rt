@@ -3,47 +3,15 @@
 ghost use mathlib.Core.Path.{_≡_};
 ghost use mathlib.Core.List.{[]};
 ghost use Rattle.protocol.specs.Said.{shownAs};
-ghost use Rattle.protocol.specs.Truncate.{afterTruncateR, truncate};
-ghost use Rattle.truncating.specs.Parts.{partOf, laneAnswer, deleteAnswer};
+ghost use Rattle.protocol.specs.Truncate.{afterTruncateR, truncateLane, truncateDelete, truncate};
 use protocol::Answer;
 use protocol::Due;
 use protocol::Point;
 use protocol::Refusal;
 use protocol::State;
 use protocol::Store;
+use protocol::TruncateStep;
 use table::LANES;
-
-// Which of its stores a call of Truncate is for.
-enum Part {
-    // R of lane 0, where nothing is due.
-    First,
-    // R of a lane, and the deletion, which are due at a position.
-    R { lane: u8, position: u64 },
-    Delete { position: u64 },
-    // A store of another operation is due.
-    Other,
-}
-
-// The part that is due.
-fn part_of(due: Due) -> Part
-    ensures { λ r. ⌜ r ≡ partOf due ⌝ }
-{
-    match due {
-        Due::Nothing => Part::First,
-        Due::Record => Part::Other,
-        Due::File => Part::Other,
-        Due::Version => Part::Other,
-        Due::TruncateR { lane, position } => Part::R { lane, position },
-        Due::TruncateDelete { position } => Part::Delete { position },
-        Due::RecoverFile { second } => Part::Other,
-        Due::RecoverVersion { second } => Part::Other,
-        Due::RecoverSeal => Part::Other,
-        Due::RecoverR { lane } => Part::Other,
-        Due::RecoverEpoch => Part::Other,
-        Due::RecoverV { lane } => Part::Other,
-        Due::RecoverEmpty => Part::Other,
-    }
-}
 
 // The store that is due behind R of a lane: R of the next lane, or the deletion.
 fn after_r(lane: u8, position: u64) -> Due
@@ -51,17 +19,20 @@ fn after_r(lane: u8, position: u64) -> Due
 {
     if lane < LANES - 1 {
         let next = lane + 1;
-        return Due::TruncateR {
-            lane: next,
+        return Due::Truncate {
             position,
+            step: TruncateStep::R { lane: next },
         };
     }
-    Due::TruncateDelete { position }
+    Due::Truncate {
+        position,
+        step: TruncateStep::Delete,
+    }
 }
 
 // R of a lane is set to the point's count of it, and named.
 fn lane_stored(c: State, position: u64, lane: u8, q: Point) -> Answer
-    ensures { λ r. ⌜ r ≡ laneAnswer c position lane q ⌝ }
+    ensures { λ r. ⌜ shownAs r [] ≡ truncateLane c position lane q ⌝ }
 {
     let x = c.vault;
     let counts = q.counts;
@@ -73,27 +44,14 @@ fn lane_stored(c: State, position: u64, lane: u8, q: Point) -> Answer
 
 // The point at a position and the older ones are dropped, and the deletion of the records below it is named.
 fn deleted(c: State, position: u64) -> Answer
-    ensures { λ r. ⌜ r ≡ deleteAnswer c position ⌝ }
+    ensures { λ r. ⌜ shownAs r [] ≡ truncateDelete c position ⌝ }
 {
     let old = c.points;
     let points = journal::points::dropped_to(old, position);
-    let vault = c.vault;
-    let phase = c.phase;
-    let table = c.table;
-    let journal = c.journal;
-    let held = c.held;
-    let key = c.key;
-    let state = State {
-        vault,
-        phase,
-        due: Due::Nothing,
-        table,
-        journal,
-        points,
-        held,
-        key,
-    };
-    state::taken(state, Store::Delete { position }, 0)
+    let mut next = c;
+    next.points = points;
+    let x = c.vault;
+    state::stored(next, x, Due::Nothing, Store::Delete { position }, 0)
 }
 
 // Truncate: a position. It refuses a collector that is not in service, that has another store due, or that is
@@ -111,31 +69,34 @@ pub fn truncate(c: State, position: u64) -> Answer
     if !good {
         return state::refused(c, Refusal::Condition);
     }
-    let part = part_of(due);
     let read = journal::points::find_point(p, position);
     let q = read.point;
     let found = read.found;
-    match part {
-        Part::First => {
+    match due {
+        Due::Nothing => {
             let bare = !found | !q.covered;
             if bare {
                 return state::refused(c, Refusal::Point);
             }
             lane_stored(c, position, 0, q)
         }
-        Part::R { lane, position: at } => {
-            let off = (at != position) | !found | (LANES <= lane);
-            if off {
-                return state::refused(c, Refusal::Condition);
-            }
-            lane_stored(c, position, lane, q)
-        }
-        Part::Delete { position: at } => {
+        Due::Truncate { position: at, step } => {
             if at != position {
                 return state::refused(c, Refusal::Condition);
             }
-            deleted(c, position)
+            match step {
+                TruncateStep::R { lane } => {
+                    let off = !found | (LANES <= lane);
+                    if off {
+                        return state::refused(c, Refusal::Condition);
+                    }
+                    lane_stored(c, position, lane, q)
+                }
+                TruncateStep::Delete => deleted(c, position),
+            }
         }
-        Part::Other => state::refused(c, Refusal::Condition),
+        Due::Record => state::refused(c, Refusal::Condition),
+        Due::Checkpoint { step } => state::refused(c, Refusal::Condition),
+        Due::Recover { step } => state::refused(c, Refusal::Condition),
     }
 }

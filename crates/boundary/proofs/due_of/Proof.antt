@@ -26,11 +26,11 @@ returns-5 c = rw (c .if5 .taken)
 
 returns-6 : tie.Need-returns-6
 unfolding dueOf
-returns-6 c = rw (c .before .if6 .taken)
+returns-6 c = rw (c .if6 .taken)
 
 returns-7 : tie.Need-returns-7
 unfolding dueOf
-returns-7 c = rw (c .before .if7 .taken)
+returns-7 c = rw (c .if7 .taken)
 
 returns-8 : tie.Need-returns-8
 unfolding dueOf

@@ -15,8 +15,8 @@ returns c =
 
 returns-2 : tie.Need-returns-2
 returns-2 c =
-    let i = c .before in
-    c .seal-step .ensures ∙ first-taken (i .before .before .before .before .args .c) (i .if1 .left)
+    let i = c .before .before in
+    c .stepped .ensures ∙ first-taken (i .before .before .before .before .args .c) (i .if1 .left) (c .before .raise-n .ensures)
 
 pub first-call-spec : {M : Type 1} → statement M
-first-call-spec = tie.close (tie.spec (λ c κs. search needs) returns (λ c κs. search needs) returns-2)
+first-call-spec = tie.close (tie.spec (λ c κs. search needs) returns (λ c κs. search needs) (λ c κs. search needs) returns-2)

@@ -3,8 +3,7 @@ use borrow.Author.Needs.{needs}
 use borrow.Author.Tests.{not-true, not-false}
 use mathlib.Core.Path.{sym, ap, _∙_}
 use mathlib.Core.List.{[]}
-use Rattle.state.specs.Parts.{refusedWith, takenWith}
-use Rattle.protocol.specs.Said.{shownAs}
+use Rattle.protocol.specs.Said.{shownAs, refusedWith, takenWith}
 use Rattle.protocol.specs.Load.{loaded}
 use Rattle.protocol.specs.declared.Answer.{Answer}
 use Rattle.protocol.specs.declared.State.{State}

@@ -6,10 +6,9 @@ use lib.ListN.{length}
 use Rattle.table.proofs.Arrays.{length-of-map}
 use Rattle.protocol.specs.Said.{shownAs}
 use Rattle.protocol.specs.declared.Answer.{Answer}
-use Rattle.checkpoint_steps.proofs.StepLaws.{file-spent, file-short, file-taken}
-use Rattle.recovering.specs.Parts.{stepped, numberCall}
+use Rattle.steps.proofs.StepLaws.{step-stands, step-goes, file-spent, file-short, file-taken}
 use Rattle.recovering.proofs.StartLaws.{n-room, first-condition, first-long, first-spent, first-taken, first-stopped}
-use Rattle.recovering.proofs.OnLaws.{emptied, on-number, on-empty, on-file, on-cold, on-serving, on-invalid, on-valid}
+use Rattle.recovering.proofs.OnLaws.{emptied, on-number, on-empty, on-file, on-cold, on-serving, on-invalid, on-valid, other-due, on-other}
 use borrow.Author.Needs.{needs}
 use Rattle.recovering.proofs.recover.Statement.{statement}
 use Rattle.recovering.proofs.recover.Tie as tie
@@ -43,59 +42,65 @@ returns-4 c =
 
 returns-5 : tie.Need-returns-5
 returns-5 c =
-    let g = c .before .before .before .before .before .before .before .before .before .before .before .before .before .before .args in
-    let p = c .before .before .before .before .before .part-of in
-    on-valid (g .c) (g .checkpoint .now) (g .log .now) (g .out .now) _ (c .before .before .before .before .before .before .before .enum-told3 .given .1) (c .before .before .before .before .before .before .before .before .before .valid .ensures) (c .before .before .before .before .before .before .if4 .left) _
-    (on-file (g .c) (g .out .now) (p .result) (p .ensures) _ (c .before .before .before .part .given .1) _ (c .refused6 .ensures) (file-spent (g .c) _ (g .out .now) (c .before .if5 .taken)))
+    let g = c .before .before .before .before .before .before .before .before .before .before .args in
+    on-valid (g .c) (g .checkpoint .now) (g .log .now) (g .out .now) _ (c .before .before .before .enum-told3 .given .1) (c .before .before .before .before .before .valid .ensures) (c .before .before .if4 .left) _
+    (on-other (g .c) (g .out .now) _ (c .refused6 .ensures) (other-due (g .c) _ (g .c .due) (c .before .match3 .keys2)))
 
 returns-6 : tie.Need-returns-6
 returns-6 c =
-    let g = c .before .before .before .before .before .before .before .before .before .before .before .before .before .before .before .args in
-    let p = c .before .before .before .before .before .before .part-of in
-    on-valid (g .c) (g .checkpoint .now) (g .log .now) (g .out .now) _ (c .before .before .before .before .before .before .before .before .enum-told3 .given .1) (c .before .before .before .before .before .before .before .before .before .before .valid .ensures) (c .before .before .before .before .before .before .before .if4 .left) _
-    (on-file (g .c) (g .out .now) (p .result) (p .ensures) _ (c .before .before .before .before .part .given .1) _ (c .refused7 .ensures) (file-short (g .c) _ (g .out .now) (c .before .before .if5 .left) (c .before .if6 .taken)))
+    let g = c .before .before .before .before .before .before .before .before .before .before .before .before .before .before .before .before .args in
+    on-valid (g .c) (g .checkpoint .now) (g .log .now) (g .out .now) _ (c .before .before .before .before .before .before .before .before .before .enum-told3 .given .1) (c .before .before .before .before .before .before .before .before .before .before .before .valid .ensures) (c .before .before .before .before .before .before .before .before .if4 .left) _
+    (on-file (g .c) (g .out .now) (c .before .before .before .before .before .before .due .given .1) _ (c .before .before .before .step .given .1) _ (c .refused7 .ensures) (file-spent (g .c) _ (g .out .now) (c .before .if5 .taken)))
 
 returns-7 : tie.Need-returns-7
 returns-7 c =
+    let g = c .before .before .before .before .before .before .before .before .before .before .before .before .before .before .before .before .before .args in
+    on-valid (g .c) (g .checkpoint .now) (g .log .now) (g .out .now) _ (c .before .before .before .before .before .before .before .before .before .before .enum-told3 .given .1) (c .before .before .before .before .before .before .before .before .before .before .before .before .valid .ensures) (c .before .before .before .before .before .before .before .before .before .if4 .left) _
+    (on-file (g .c) (g .out .now) (c .before .before .before .before .before .before .before .due .given .1) _ (c .before .before .before .before .step .given .1) _ (c .refused8 .ensures) (file-short (g .c) _ (g .out .now) (c .before .before .if5 .left) (c .before .if6 .taken)))
+
+returns-8 : tie.Need-returns-8
+returns-8 c =
+    let g = c .before .before .before .before .before .before .before .before .before .before .before .before .before .before .before .before .before .args in
+    on-valid (g .c) (g .checkpoint .now) (g .log .now) (g .out .now) _ (c .before .before .before .before .before .before .before .before .before .before .enum-told3 .given .1) (c .before .before .before .before .before .before .before .before .before .before .before .before .valid .ensures) (c .before .before .before .before .before .before .before .before .before .if4 .left) _
+    (on-number (g .c) (g .out .now) (c .before .before .before .before .before .before .before .due .given .1) _ (c .before .before .before .before .step2 .given .1) (c .before .before .number-step .ensures) (ap (λ (y : Answer). shownAs y []) (c .refused9 .ensures) ∙ step-stands (g .c) (c .before .before .number-step .result) (c .before .if7 .taken)))
+
+returns-9 : tie.Need-returns-9
+returns-9 c =
     let g = c .before .before .before .before .before .before .before .before .before .before .before .before .before .before .before .before .before .before .before .before .before .args in
     on-cold (g .c) (g .checkpoint .now) (g .log .now) (g .out .now) _ (c .before .before .before .before .before .before .before .before .before .before .before .before .before .before .enum-told .given .1)
     (first-taken (g .c) (g .checkpoint .now) (g .log .now) (c .before .before .before .before .before .before .before .before .before .before .before .before .before .before .before .before .valid .ensures) (c .before .before .before .before .before .before .before .before .before .before .before .before .before .is-nothing .ensures) (c .before .before .before .before .before .before .before .before .before .before .before .before .if1 .left) (c .before .before .before .before .before .before .before .before .before .before .before .if2 .left) (c .before .before .before .before .before .before .before .before .before .before .spent .ensures) (c .before .before .before .before .before .before .before .before .before .if3 .left) (c .before .before .before .before .before .before .before .read .result) (c .before .before .before .before .before .before .before .read .ensures) (c .before .before .before .before .before .enum-told2 .given .1) (c .before .before .before .set-n .result) (c .before .before .before .set-n .ensures))
 
-returns-8 : tie.Need-returns-8
-returns-8 c =
+returns-10 : tie.Need-returns-10
+returns-10 c =
     let g = c .before .before .before .before .before .before .before .before .before .before .before .before .before .before .before .before .before .before .args in
     on-cold (g .c) (g .checkpoint .now) (g .log .now) (g .out .now) _ (c .before .before .before .before .before .before .before .before .before .before .before .enum-told .given .1)
     (ap (λ (y : Answer). shownAs y []) (c .refused4 .ensures) ∙ first-stopped (g .c) (g .checkpoint .now) (g .log .now) (c .before .before .before .before .before .before .before .before .before .before .before .before .before .valid .ensures) (c .before .before .before .before .before .before .before .before .before .before .is-nothing .ensures) (c .before .before .before .before .before .before .before .before .before .if1 .left) (c .before .before .before .before .before .before .before .before .if2 .left) (c .before .before .before .before .before .before .before .spent .ensures) (c .before .before .before .before .before .before .if3 .left) (c .before .before .before .before .read .result) (c .before .before .before .before .read .ensures) (c .before .before .end .given .1))
 
-returns-9 : tie.Need-returns-9
-returns-9 c =
-    let g = c .before .before .before .before .before .before .before .before .before .before .before .before .before .before .before .before .before .before .before .before .before .before .before .args in
-    let p = c .before .before .before .before .before .before .before .before .before .before .before .before .before .before .part-of in
-    -- what is known of the table among the parts of the state
-    let k = c .before .before .before .before .before .before .before .before .before .before .before .before .before .before .before .before .before .before .before .before .before .before .before .good .0 .1 .1 .1 .1 .1 .0 in
-    let n : length (g .c .table .entries) ≡ 256 = search (length-of-map, k) in
-    on-valid (g .c) (g .checkpoint .now) (g .log .now) (g .out .now) _ (c .before .before .before .before .before .before .before .before .before .before .before .before .before .before .before .before .enum-told3 .given .1) (c .before .before .before .before .before .before .before .before .before .before .before .before .before .before .before .before .before .before .valid .ensures) (c .before .before .before .before .before .before .before .before .before .before .before .before .before .before .before .if4 .left) _
-    (on-file (g .c) (g .out .now) (p .result) (p .ensures) _ (c .before .before .before .before .before .before .before .before .before .before .before .before .part .given .1) _ refl (file-taken (g .c) _ (g .out .now) (c .before .before .before .before .before .before .before .before .before .before .if5 .left) (c .before .before .before .before .before .before .before .before .before .if6 .left) n _ _ refl (c .before .before .before .before .before .put-table .ensures .1)))
-
-returns-10 : tie.Need-returns-10
-returns-10 c =
-    let g = c .before .before .before .before .before .before .before .before .before .before .before .before .before .before .before .before .args in
-    let p = c .before .before .before .before .before .before .before .part-of in
-    on-valid (g .c) (g .checkpoint .now) (g .log .now) (g .out .now) _ (c .before .before .before .before .before .before .before .before .before .enum-told3 .given .1) (c .before .before .before .before .before .before .before .before .before .before .before .valid .ensures) (c .before .before .before .before .before .before .before .before .if4 .left) _
-    (on-empty (g .c) (g .out .now) (p .result) (p .ensures) _ (c .before .before .before .before .before .enum-told4 .given .1) (emptied (g .c) (c .before .before .before .no-journal .result) (c .before .before .no-points .result) (c .before .before .before .no-journal .ensures) (c .before .before .no-points .ensures)))
-
 returns-11 : tie.Need-returns-11
-unfolding numberCall stepped
 returns-11 c =
-    let g = c .before .before .before .before .before .before .before .before .before .before .before .before .before .before .before .before .before .before .args in
-    let p = c .before .before .before .before .before .before .before .before .before .part-of in
-    on-valid (g .c) (g .checkpoint .now) (g .log .now) (g .out .now) _ (c .before .before .before .before .before .before .before .before .before .before .before .enum-told3 .given .1) (c .before .before .before .before .before .before .before .before .before .before .before .before .before .valid .ensures) (c .before .before .before .before .before .before .before .before .before .before .if4 .left) _
-    (on-number (g .c) (g .out .now) (p .result) (p .ensures) _ (c .before .before .before .before .before .before .before .enum-told5 .given .1) (ap (stepped (g .c)) (c .before .before .before .before .before .before .number-step .ensures)))
+    let g = c .before .before .before .before .before .before .before .before .before .before .before .before .before .before .before .before .before .before .before .before .before .before .before .before .before .args in
+    -- what is known of the table among the parts of the state
+    let k = c .before .before .before .before .before .before .before .before .before .before .before .before .before .before .before .before .before .before .before .before .before .before .before .before .before .good .0 .1 .1 .1 .1 .1 .0 in
+    let n : length (g .c .table .entries) ≡ 256 = search (length-of-map, k) in
+    on-valid (g .c) (g .checkpoint .now) (g .log .now) (g .out .now) _ (c .before .before .before .before .before .before .before .before .before .before .before .before .before .before .before .before .before .before .enum-told3 .given .1) (c .before .before .before .before .before .before .before .before .before .before .before .before .before .before .before .before .before .before .before .before .valid .ensures) (c .before .before .before .before .before .before .before .before .before .before .before .before .before .before .before .before .before .if4 .left) _
+    (on-file (g .c) (g .out .now) (c .before .before .before .before .before .before .before .before .before .before .before .before .before .before .before .due .given .1) _ (c .before .before .before .before .before .before .before .before .before .before .before .before .step .given .1) _ refl (file-taken (g .c) _ (g .out .now) (c .before .before .before .before .before .before .before .before .before .before .if5 .left) (c .before .before .before .before .before .before .before .before .before .if6 .left) n _ _ refl (c .before .before .before .before .before .put-table .ensures .1)))
 
 returns-12 : tie.Need-returns-12
 returns-12 c =
+    let g = c .before .before .before .before .before .before .before .before .before .before .before .before .before .before .before .before .before .before .before .before .before .before .args in
+    on-valid (g .c) (g .checkpoint .now) (g .log .now) (g .out .now) _ (c .before .before .before .before .before .before .before .before .before .before .before .before .before .before .before .enum-told3 .given .1) (c .before .before .before .before .before .before .before .before .before .before .before .before .before .before .before .before .before .valid .ensures) (c .before .before .before .before .before .before .before .before .before .before .before .before .before .before .if4 .left) _
+    (on-number (g .c) (g .out .now) (c .before .before .before .before .before .before .before .before .before .before .before .before .due .given .1) _ (c .before .before .before .before .before .before .before .before .before .step2 .given .1) (c .before .before .before .before .before .before .before .number-step .ensures) (step-goes (g .c) (c .before .before .before .before .before .before .before .number-step .result) (c .before .before .before .before .before .before .if7 .left)))
+
+returns-13 : tie.Need-returns-13
+returns-13 c =
+    let g = c .before .before .before .before .before .before .before .before .before .before .before .before .before .before .before .before .before .before .args in
+    on-valid (g .c) (g .checkpoint .now) (g .log .now) (g .out .now) _ (c .before .before .before .before .before .before .before .before .before .before .before .enum-told3 .given .1) (c .before .before .before .before .before .before .before .before .before .before .before .before .before .valid .ensures) (c .before .before .before .before .before .before .before .before .before .before .if4 .left) _
+    (on-empty (g .c) (g .out .now) (c .before .before .before .before .before .before .before .before .due .given .1) _ (c .before .before .before .before .before .enum-told4 .given .1) (emptied (g .c) (c .before .before .before .no-journal .result) (c .before .before .no-points .result) (c .before .before .before .no-journal .ensures) (c .before .before .no-points .ensures)))
+
+returns-14 : tie.Need-returns-14
+returns-14 c =
     let g = c .before .before .before .before .before .before .before .before .args in
-    on-serving (g .c) (g .checkpoint .now) (g .log .now) (g .out .now) _ (c .before .enum-told6 .given .1) (c .refused8 .ensures)
+    on-serving (g .c) (g .checkpoint .now) (g .log .now) (g .out .now) _ (c .before .enum-told5 .given .1) (c .refused10 .ensures)
 
 pub recover-spec : {M : Type 1} → statement M
 recover-spec =
@@ -120,25 +125,29 @@ recover-spec =
     (λ c. search needs)
     (λ c κs. search needs)
     returns-4
-    (λ c κs. search needs)
     (λ c. search needs)
     (λ c κs. search needs)
     returns-5
+    (λ c. search needs)
     (λ c κs. search needs)
     returns-6
-    (λ c. search needs)
-    (λ c κs. search needs)
-    (λ c. search needs)
-    (λ c κs. search needs)
-    (λ c κs. search needs)
-    (λ c. search needs)
-    (λ c κs. search needs)
-    (λ c. search needs)
     (λ c κs. search needs)
     returns-7
+    (λ c. search needs)
+    (λ c κs. search needs)
+    (λ c. search needs)
+    (λ c κs. search needs)
+    (λ c κs. search needs)
     returns-8
     (λ c. search needs)
+    (λ c κs. search needs)
+    (λ c κs. search needs)
+    (λ c. search needs)
+    (λ c κs. search needs)
     returns-9
     returns-10
+    (λ c. search needs)
     returns-11
-    returns-12)
+    returns-12
+    returns-13
+    returns-14)

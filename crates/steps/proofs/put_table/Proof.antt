@@ -1,10 +1,10 @@
--- `checkpoint_steps::put_table` meets its contract: a file under the prepared key is one under the key. Assumes nothing.
+-- `steps::put_table` meets its contract: a file under the prepared key is one under the key. Assumes nothing.
 use mathlib.Core.Path.{refl}
 use borrow.Author.Needs.{needs}
 use Rattle.gcm.proofs.KeyLaws.{keyOf, prepared-parts}
-use Rattle.checkpoint_steps.proofs.StepLaws.{sealed-under}
-use Rattle.checkpoint_steps.proofs.put_table.Statement.{statement}
-use Rattle.checkpoint_steps.proofs.put_table.Tie as tie
+use Rattle.steps.proofs.StepLaws.{sealed-under}
+use Rattle.steps.proofs.put_table.Statement.{statement}
+use Rattle.steps.proofs.put_table.Tie as tie
 
 returns : tie.Need-returns
 returns c =

@@ -1,11 +1,13 @@
--- Each way out of a checkpoint's three steps (01, Operations) is the definition's.
+-- Each way out of one store's step (01, Operations) is the definition's.
 -- Assumes nothing.
 use Prim.Native.Nat.{ℕ, suc, _+_, _≤_, _<_}
 use mathlib.Core.Path.{_≡_, ap, _∙_}
+use mathlib.Core.Bool.{true, false, not}
 use mathlib.Core.List.{List, []}
 use native.Mathlib.Numerals.{add-one}
 use native.Mathlib.Omega.{arith}
 use borrow.Author.Tests.{le-leb, lt-leb, lt-ltb, le-ltb}
+use lib.Dec.{leb}
 use lib.ListN.{length}
 use Rattle.octets.specs.Lists.{putOver}
 use Rattle.aes.specs.Cipher.{cipher}
@@ -20,17 +22,17 @@ use Rattle.sealed.specs.Aead.{aesGcm, gcmBy}
 use Rattle.sealed.specs.Checkpoint.{fileLen, fileHead, fileNonce, fileBytes, fileAnswer, filePut}
 use Rattle.sealed.proofs.FrameTrip.{aes-grows, length-framed}
 use Rattle.sealed.proofs.FileLaws.{length-head, prepared-file-bytes}
-use Rattle.protocol.specs.Vaults.{counterMax, setS, setN}
+use Rattle.protocol.specs.Vaults.{counterMax}
 use Rattle.protocol.specs.States.{withVault}
-use Rattle.protocol.specs.Said.{refuse, numberOf, valuesOf, shown, shownAs}
-use Rattle.protocol.specs.Checkpoint.{tableFile}
+use Rattle.protocol.specs.Said.{refuse, numberOf, valuesOf, shown, shownAs, refusedWith, takenWith}
+use Rattle.protocol.specs.Steps.{standsIf, stepped, tableFile, fileStep}
 use Rattle.protocol.specs.declared.Vault.{Vault}
 use Rattle.protocol.specs.declared.State.{State}
 use Rattle.protocol.specs.declared.Due.{Due}
+use Rattle.protocol.specs.declared.Step.{Step}
+use Rattle.protocol.specs.declared.Store.{Store}
 use Rattle.protocol.specs.declared.Store.the-variants as S
 use Rattle.protocol.specs.declared.Refusal.the-variants as R
-use Rattle.state.specs.Parts.{refusedWith, takenWith}
-use Rattle.checkpoint_steps.specs.Steps.{sealStep, fileStep, versionStep}
 
 -- ---- a table's file
 
@@ -49,31 +51,30 @@ length-put key version seal t long =
     let l = length-table t long in
     length-framed (aesGcm key) (aes-grows key) (fileNonce seal) (fileHead version seal) (tableText t) (length-head version seal) ∙ omega arith
 
+-- ---- a vault number: it stands at the limit, and below it goes
+
+module _ (k n : ℕ) (x y : Vault) (next : Due) (store : Store) where
+  pub stands : k ≤ n → record { goes = false; vault = x; due = next; store = S.Nothing } ≡ standsIf (leb k n) x y next store
+  unfolding standsIf
+  stands h = rw (le-leb k n h)
+
+  pub goes : n < k → record { goes = true; vault = y; due = next; store = store } ≡ standsIf (leb k n) x y next store
+  unfolding standsIf
+  goes h = rw (lt-leb k n h)
+
+-- what is answered with it
+module _ (c : State) (s : Step) where
+  pub step-stands : not (s .goes) ≡ true → shownAs (refusedWith c R.Condition) [] ≡ stepped c s
+  unfolding stepped refuse shownAs shown numberOf valuesOf
+  step-stands h = rw h
+
+  pub step-goes : not (s .goes) ≡ false → shownAs (takenWith (withVault c (s .vault) (s .due)) (s .store) 0) [] ≡ stepped c s
+  unfolding stepped refuse shownAs shown
+  step-goes h = rw h
+
+-- ---- the file, over a buffer o
+
 module _ (c : State) (next : Due) where
-  -- ---- N
-
-  pub seal-spent : counterMax ≤ c .vault .n → shownAs (refusedWith c R.Condition) [] ≡ sealStep c next
-  unfolding shownAs shown numberOf valuesOf sealStep refuse
-  seal-spent h = rw (le-leb counterMax (c .vault .n) h)
-
-  pub seal-taken : c .vault .n < counterMax → (x : Vault) (d : State) → x ≡ setN (c .vault) (c .vault .n + 1) → d ≡ withVault c x next
-      → shownAs (takenWith d (S.N (c .vault .n + 1)) 0) [] ≡ sealStep c next
-  unfolding shownAs shown sealStep refuse
-  seal-taken h x d ex ed = rw (lt-leb counterMax (c .vault .n) h, ed, ex, add-one (c .vault .n))
-
-  -- ---- S
-
-  pub version-spent : counterMax ≤ c .vault .s → shownAs (refusedWith c R.Condition) [] ≡ versionStep c next
-  unfolding shownAs shown numberOf valuesOf versionStep refuse
-  version-spent h = rw (le-leb counterMax (c .vault .s) h)
-
-  pub version-taken : c .vault .s < counterMax → (x : Vault) (d : State) → x ≡ setS (c .vault) (c .vault .s + 1) → d ≡ withVault c x next
-      → shownAs (takenWith d (S.S (c .vault .s + 1)) 0) [] ≡ versionStep c next
-  unfolding shownAs shown versionStep refuse
-  version-taken h x d ex ed = rw (lt-leb counterMax (c .vault .s) h, ed, ex, add-one (c .vault .s))
-
-  -- ---- the file, over a buffer o
-
   module _ (o : List ℕ) where
     pub file-spent : counterMax ≤ c .vault .s
         → (shownAs (refusedWith c R.Condition) (fileStep c (length o) next .put) ≡ fileStep c (length o) next) × (o ≡ putOver (fileStep c (length o) next .put) o)

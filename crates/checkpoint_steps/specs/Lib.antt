@@ -1,2 +1,0 @@
--- Steps: the three steps of a checkpoint.
-pub mod Steps

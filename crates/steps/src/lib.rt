@@ -1,0 +1,182 @@
+// One store of an operation that takes several (01, Operations): a vault number, or a checkpoint's file. Each is told
+// which store is due behind it. Checkpoint and Recover are made of these.
+ghost use mathlib.Core.Path.{_≡_};
+ghost use mathlib.Core.List.{[]};
+ghost use lib.ListN.{length};
+ghost use Rattle.octets.specs.Lists.{putOver};
+ghost use Rattle.sealed.specs.Aead.{aesGcm};
+ghost use Rattle.sealed.specs.Checkpoint.{fileBytes, fileAnswer, filePut};
+ghost use Rattle.protocol.specs.Said.{shownAs};
+ghost use Rattle.protocol.specs.Steps.{raiseS, raiseN, raiseE, levelR, levelV, stepped, fileStep};
+use protocol::Answer;
+use protocol::Due;
+use protocol::Refusal;
+use protocol::State;
+use protocol::Step;
+use protocol::Store;
+use protocol::Vault;
+use sealed::file::FILE_LEN;
+use sealed::file::FilePut;
+use table::LANES;
+use table::Table;
+use vault::COUNTER_MAX;
+
+// S + 1; not where S is at the maximum.
+pub fn raise_s(x: Vault, next: Due) -> Step
+    ensures { λ r. ⌜ r ≡ raiseS x next ⌝ }
+{
+    let s = x.s;
+    if COUNTER_MAX <= s {
+        return Step {
+            goes: false,
+            vault: x,
+            due: next,
+            store: Store::Nothing,
+        };
+    }
+    let value = s + 1;
+    let raised = vault::set_s(x, value);
+    Step {
+        goes: true,
+        vault: raised,
+        due: next,
+        store: Store::S { value },
+    }
+}
+
+// N + 1; not where N is at the maximum.
+pub fn raise_n(x: Vault, next: Due) -> Step
+    ensures { λ r. ⌜ r ≡ raiseN x next ⌝ }
+{
+    let n = x.n;
+    if COUNTER_MAX <= n {
+        return Step {
+            goes: false,
+            vault: x,
+            due: next,
+            store: Store::Nothing,
+        };
+    }
+    let value = n + 1;
+    let raised = vault::set_n(x, value);
+    Step {
+        goes: true,
+        vault: raised,
+        due: next,
+        store: Store::N { value },
+    }
+}
+
+// E + 1; not where E is at the maximum.
+pub fn raise_e(x: Vault, next: Due) -> Step
+    ensures { λ r. ⌜ r ≡ raiseE x next ⌝ }
+{
+    let e = x.e;
+    if COUNTER_MAX <= e {
+        return Step {
+            goes: false,
+            vault: x,
+            due: next,
+            store: Store::Nothing,
+        };
+    }
+    let value = e + 1;
+    let raised = vault::set_e(x, value);
+    Step {
+        goes: true,
+        vault: raised,
+        due: next,
+        store: Store::E { value },
+    }
+}
+
+// R = W of a lane; not where there is no such lane.
+pub fn level_r(x: Vault, lane: u8, next: Due) -> Step
+    ensures { λ r. ⌜ r ≡ levelR x lane next ⌝ }
+{
+    if LANES <= lane {
+        return Step {
+            goes: false,
+            vault: x,
+            due: next,
+            store: Store::Nothing,
+        };
+    }
+    let value = vault::w_at(x, lane);
+    let raised = vault::set_r(x, lane, value);
+    Step {
+        goes: true,
+        vault: raised,
+        due: next,
+        store: Store::R { lane, value },
+    }
+}
+
+// V = W of a lane; not where there is no such lane.
+pub fn level_v(x: Vault, lane: u8, next: Due) -> Step
+    ensures { λ r. ⌜ r ≡ levelV x lane next ⌝ }
+{
+    if LANES <= lane {
+        return Step {
+            goes: false,
+            vault: x,
+            due: next,
+            store: Store::Nothing,
+        };
+    }
+    let value = vault::w_at(x, lane);
+    let raised = vault::set_v(x, lane, value);
+    Step {
+        goes: true,
+        vault: raised,
+        due: next,
+        store: Store::V { lane, value },
+    }
+}
+
+// What a call answers with the step of a vault number: one that cannot be set is turned down (1).
+pub fn stepped(c: State, step: Step) -> Answer
+    ensures { λ r. ⌜ shownAs r [] ≡ stepped c step ⌝ }
+{
+    let goes = step.goes;
+    if !goes {
+        return state::refused(c, Refusal::Condition);
+    }
+    let x = step.vault;
+    let due = step.due;
+    let store = step.store;
+    state::stored(c, x, due, store, 0)
+}
+
+// Seals a table under a key as a checkpoint file at the start of out. It refuses an output with no room; out is then
+// as it came.
+pub fn put_table(key: [u8; 16], version: u64, seal: u64, t: Table, out: &mut [u8]) -> FilePut
+    ensures answer { λ r. ⌜ r ≡ fileAnswer (length (now (out .entry))) ⌝ }
+    ensures buffer { λ r. ⌜ now (out .exit) ≡ putOver (filePut (fileAnswer (length (now (out .entry)))) (fileBytes (aesGcm key) version seal t)) (now (out .entry)) ⌝ }
+{
+    let mut multiples = [0u64; gcm::MULTIPLES_LEN];
+    let schedule = gcm::prepare_in(key, &mut multiples);
+    sealed::file::seal_file(&schedule, &multiples, version, seal, t, out)
+}
+
+// Puts the file out, with version S + 1 and N as its seal number. It refuses an S at the maximum (1), and an output
+// with no room for the file (3).
+pub fn file_step(c: State, next: Due, out: &mut [u8]) -> Answer
+    ensures answer { λ r. ⌜ shownAs r (fileStep c (length (now (out .entry))) next .put) ≡ fileStep c (length (now (out .entry))) next ⌝ }
+    ensures bytes { λ r. ⌜ now (out .exit) ≡ putOver (fileStep c (length (now (out .entry))) next .put) (now (out .entry)) ⌝ }
+{
+    let x = c.vault;
+    let s = x.s;
+    if COUNTER_MAX <= s {
+        return state::refused(c, Refusal::Condition);
+    }
+    if out.len() < FILE_LEN {
+        return state::refused(c, Refusal::Length { right: FILE_LEN });
+    }
+    let key = c.key;
+    let t = c.table;
+    let version = s + 1;
+    let seal = x.n;
+    put_table(key, version, seal, t, out);
+    state::stored(c, x, next, Store::File, FILE_LEN)
+}
