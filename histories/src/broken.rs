@@ -1,8 +1,12 @@
 //! The histories on models that are wrong in one place: each must be caught. A wrong device is held against the right
 //! model; where a claim about the whole history breaks, a wrong device is also held against one that is as wrong.
 
-use crate::{Answer, Call, Device, Raw, Reference, Tally, Twin, run};
 use paviluko_model::{Due, Listed, Model, Params, Phase, Rank, Refusal, Store, Table};
+
+use crate::device::{Answer, Call, Device, Reference, Twin};
+use crate::raw::Raw;
+use crate::tally::Tally;
+use crate::world::run;
 
 /// What is wrong.
 #[derive(Clone, Copy, Debug, PartialEq, Eq)]
@@ -62,13 +66,13 @@ impl Device for Broken {
         let before = self.twin.model.clone();
         if let (Fault::FullAtOnce, Call::Accept { .. }, Some(model)) = (self.fault, call, &before)
             && model.records.is_empty()
-            && model.clone().call_is_taken(call)
+            && is_taken(model, call)
         {
             return Err(Refusal { number: 7, value: 0 });
         }
         if let (Fault::NoCard, Call::Recover { .. }, Some(model)) = (self.fault, call, &before)
             && model.phase == Phase::Cold
-            && model.clone().call_is_taken(call)
+            && is_taken(model, call)
         {
             return Err(Refusal { number: 9, value: 0 });
         }
@@ -162,16 +166,10 @@ impl Reference for Broken {
     }
 }
 
-/// Tries a call on a copy.
-trait Tried {
-    fn call_is_taken(self, call: &Call) -> bool;
-}
-
-impl Tried for Model {
-    fn call_is_taken(self, call: &Call) -> bool {
-        let mut twin = Twin { params: self.params, model: Some(self) };
-        twin.call(call, &mut []).is_ok()
-    }
+/// Whether a copy takes a call.
+fn is_taken(model: &Model, call: &Call) -> bool {
+    let mut twin = Twin { params: model.params, model: Some(model.clone()) };
+    twin.call(call, &mut []).is_ok()
 }
 
 /// Runs histories until one fails.

@@ -5,7 +5,7 @@ use std::rc::Rc;
 
 use paviluko_model::{Model, Params, Refusal, Taken, Vault};
 
-use crate::Raw;
+use crate::raw::Raw;
 
 /// A call's answer.
 pub type Answer = Result<Taken, Refusal>;
@@ -128,21 +128,20 @@ impl Twin {
 
 impl Device for Twin {
     fn call(&mut self, call: &Call, out: &mut [u8]) -> Answer {
-        if let Call::Load { vault, key } = call {
-            self.model = Some(Model::load(&self.params, vault, key)?);
-            return Ok(Taken { store: None, len: 0 });
-        }
-        // There is a state for every other call.
-        let Some(model) = &mut self.model else { return Err(Refusal { number: 0, value: 0 }) };
-        match call {
-            Call::Load { .. } => Err(Refusal { number: 0, value: 0 }),
-            Call::Accept { transaction, lane, position } => model.accept(transaction, *lane, *position),
-            Call::Seal { .. } => model.seal(out),
-            Call::Commit { record } => model.commit(record),
-            Call::Point { position } => model.point(*position),
-            Call::Checkpoint { .. } => model.checkpoint(out),
-            Call::Truncate { position } => model.truncate(*position),
-            Call::Recover { checkpoint, log, .. } => model.recover(checkpoint, log, out),
+        match (call, &mut self.model) {
+            (Call::Load { vault, key }, model) => {
+                *model = Some(Model::load(&self.params, vault, key)?);
+                Ok(Taken { store: None, len: 0 })
+            }
+            // There is a state for every other call.
+            (_, None) => Err(Refusal { number: 0, value: 0 }),
+            (Call::Accept { transaction, lane, position }, Some(model)) => model.accept(transaction, *lane, *position),
+            (Call::Seal { .. }, Some(model)) => model.seal(out),
+            (Call::Commit { record }, Some(model)) => model.commit(record),
+            (Call::Point { position }, Some(model)) => model.point(*position),
+            (Call::Checkpoint { .. }, Some(model)) => model.checkpoint(out),
+            (Call::Truncate { position }, Some(model)) => model.truncate(*position),
+            (Call::Recover { checkpoint, log, .. }, Some(model)) => model.recover(checkpoint, log, out),
         }
     }
 

@@ -3,18 +3,26 @@
 //! A history is a list of calls, cuts and handed states, drawn from a seed. After every call the two answers, the lent
 //! buffer and the states are compared, and what the scope says about whole histories is asserted: the table after an
 //! accepted Recover is the book's, and a card that kept faith is taken unless a counter is spent.
+//!
+//! A module uses only those named before it: `rng`, `raw`, `values`, `device`, `tally`, `host`, `bytes`, `cards`,
+//! `calls`, `states`, `draw`, `world`.
 
 #[cfg(test)]
 mod broken;
-pub mod device;
-pub mod draw;
+mod bytes;
+mod calls;
+mod cards;
+mod device;
+mod draw;
+mod host;
 pub mod raw;
-pub mod rng;
-pub mod tally;
-pub mod world;
+mod rng;
+mod states;
+mod tally;
+mod values;
+mod world;
 
 pub use device::{Answer, Call, Device, Reference, Twin};
 pub use raw::Raw;
-pub use rng::Rng;
 pub use tally::Tally;
 pub use world::run;

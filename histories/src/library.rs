@@ -161,26 +161,22 @@ impl Device for Library {
     fn call(&mut self, call: &Call, out: &mut [u8]) -> Answer {
         self.meter = self.meter.wrapping_add(1);
         *self.before = self.collector.as_ref().map(|collector| *collector.state());
-        if let Call::Load { vault, key } = call {
-            return match Collector::load(&numbers(vault), key) {
-                Ok(collector) => {
-                    self.collector = Some(collector);
-                    Ok(Taken { store: None, len: 0 })
-                }
-                Err(refusal) => answer(Err(refusal)),
-            };
-        }
-        // There is a state for every other call.
-        let Some(collector) = &mut self.collector else { return Err(Refusal { number: 0, value: 0 }) };
-        answer(match call {
-            Call::Load { .. } => return Err(Refusal { number: 0, value: 0 }),
-            Call::Accept { transaction, lane, position } => collector.accept(transaction, *lane, *position),
-            Call::Seal { .. } => collector.seal(out),
-            Call::Commit { record } => collector.commit(record),
-            Call::Point { position } => collector.point(*position),
-            Call::Checkpoint { .. } => collector.checkpoint(out),
-            Call::Truncate { position } => collector.truncate(*position),
-            Call::Recover { checkpoint, log, .. } => collector.recover(checkpoint, log, out),
+        answer(match (call, &mut self.collector) {
+            (Call::Load { vault, key }, collector) => Collector::load(&numbers(vault), key).map(|loaded| {
+                *collector = Some(loaded);
+                paviluko_host::Taken { store: None, len: 0 }
+            }),
+            // There is a state for every other call.
+            (_, None) => Err(paviluko_host::Refusal { number: 0, value: 0 }),
+            (Call::Accept { transaction, lane, position }, Some(collector)) => {
+                collector.accept(transaction, *lane, *position)
+            }
+            (Call::Seal { .. }, Some(collector)) => collector.seal(out),
+            (Call::Commit { record }, Some(collector)) => collector.commit(record),
+            (Call::Point { position }, Some(collector)) => collector.point(*position),
+            (Call::Checkpoint { .. }, Some(collector)) => collector.checkpoint(out),
+            (Call::Truncate { position }, Some(collector)) => collector.truncate(*position),
+            (Call::Recover { checkpoint, log, .. }, Some(collector)) => collector.recover(checkpoint, log, out),
         })
     }
 

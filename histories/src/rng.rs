@@ -69,4 +69,10 @@ impl Rng {
     pub fn bytes(&mut self, len: usize) -> Vec<u8> {
         (0..len).map(|_| self.any() as u8).collect()
     }
+
+    /// Any bytes, fewer than so many.
+    pub fn bytes_below(&mut self, end: usize) -> Vec<u8> {
+        let len = self.index(end);
+        self.bytes(len)
+    }
 }

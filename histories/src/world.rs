@@ -1,35 +1,17 @@
-//! A history: the vault, the card, the book, and the events drawn one by one.
+//! A history: its events one by one on both sides, compared, and what holds of the whole history asserted.
 
 use std::collections::HashSet;
 use std::rc::Rc;
 
 use paviluko_model::card::Line;
-use paviluko_model::{Book, Card, Cipher, Due, Params, Phase, Store, Table, Vault, sealed};
+use paviluko_model::table::number_at;
+use paviluko_model::{Phase, Store, Table, Vault, sealed};
 
 use crate::device::{Answer, Call, Device, Reference};
-use crate::draw::{self, Drawn};
-use crate::{Raw, Rng, Tally};
-
-/// What a history is made of.
-#[derive(Clone, Copy, Debug, PartialEq, Eq)]
-pub enum Style {
-    /// A bit of everything, from a new vault.
-    Plain,
-    /// The list of records fills.
-    Journal,
-    /// The points fill.
-    Points,
-    /// Many cuts.
-    Cuts,
-    /// The card's log grows as long as it can.
-    Long,
-    /// Numbers near the maximum, and a card and a book that go with them.
-    Aged,
-    /// Any numbers, forged records and files, handed states: no claim about the whole, only the comparison.
-    Wild,
-    /// The same, with a handed state for every few calls.
-    Odd,
-}
+use crate::draw::{self, Drawn, Event};
+use crate::host::{Host, Style};
+use crate::raw::Raw;
+use crate::tally::Tally;
 
 /// A named store that is not yet done.
 struct Pending {
@@ -38,61 +20,23 @@ struct Pending {
     line: Option<Line>,
 }
 
-/// One event.
-enum Event {
-    Cut { done: bool },
-    Hand(Box<Raw>),
-    Call(Drawn),
-}
-
 /// A history under way.
-pub struct World<'a, D, R> {
+struct World<'a, D, R> {
     device: D,
     reference: R,
     tally: &'a mut Tally,
     pending: Option<Pending>,
     /// The book's table, and whether the book has grown since.
     shown: Option<Table>,
-    nonces: HashSet<[u8; 20]>,
+    /// What each nonce was made of: kind, lane, and the number or seal number.
+    nonces: HashSet<(u8, u8, u64)>,
     /// Calls of the recovery under way.
     stores: u64,
     /// A counter is spent: nothing more comes of this history.
     over: bool,
     out: Vec<u8>,
     expected: Vec<u8>,
-    pub host: Host,
-}
-
-/// What the host's side of a history has.
-pub struct Host {
-    pub rng: Rng,
-    pub params: Params,
-    pub style: Style,
-    pub cipher: Rc<Cipher>,
-    /// Another collector's.
-    pub other: Rc<Cipher>,
-    pub vault: Vault,
-    pub card: Card,
-    pub book: Book,
-    /// Records and files that were put out, stored or not.
-    pub records: Vec<Rc<[u8]>>,
-    pub files: Vec<Rc<[u8]>>,
-    /// Cards as they were once.
-    pub snapshots: Vec<Card>,
-    /// A long log was built, and is to be recovered.
-    pub filled: bool,
-}
-
-impl Host {
-    /// Whether the premises of the claim about whole histories hold.
-    pub fn bound(&self) -> bool {
-        !self.wild()
-    }
-
-    /// Whether states are handed over and bytes are forged.
-    pub fn wild(&self) -> bool {
-        matches!(self.style, Style::Wild | Style::Odd)
-    }
+    host: Host,
 }
 
 /// Runs the history of a seed; an error says where it failed and how to run it alone.
@@ -103,36 +47,8 @@ pub fn run<D: Device, R: Reference>(
     events: u64,
     tally: &mut Tally,
 ) -> Result<(), String> {
-    let mut rng = Rng::new(seed);
-    let style = match rng.weighted(&[500, 60, 80, 110, 2, 70, 110, 68]) {
-        0 => Style::Plain,
-        1 => Style::Journal,
-        2 => Style::Points,
-        3 => Style::Cuts,
-        4 => Style::Long,
-        5 => Style::Aged,
-        6 => Style::Wild,
-        _ => Style::Odd,
-    };
-    let params = Params::scope();
-    let mut key = [0; 16];
-    key.copy_from_slice(&rng.bytes(16));
-    let mut other = key;
-    other[rng.index(16)] ^= 1;
-    let host = Host {
-        rng,
-        params,
-        style,
-        cipher: Rc::new(Cipher::new(&key)),
-        other: Rc::new(Cipher::new(&other)),
-        vault: Vault::new(&params),
-        card: Card::default(),
-        book: Book::default(),
-        records: Vec::new(),
-        files: Vec::new(),
-        snapshots: Vec::new(),
-        filled: false,
-    };
+    let host = Host::new(seed);
+    let style = host.style;
     let mut world = World {
         device,
         reference,
@@ -146,9 +62,6 @@ pub fn run<D: Device, R: Reference>(
         expected: Vec::new(),
         host,
     };
-    if style == Style::Aged {
-        draw::age(&mut world.host);
-    }
     let count = if style == Style::Long { events + 3600 } else { events };
     world.tally.histories += 1;
     for index in 0..count {
@@ -169,7 +82,7 @@ pub fn run<D: Device, R: Reference>(
 impl<D: Device, R: Reference> World<'_, D, R> {
     /// Draws an event and goes through it.
     fn step(&mut self) -> Result<(), String> {
-        match self.draw() {
+        match draw::event(&mut self.host, self.reference.model()) {
             Event::Cut { done } => {
                 self.tally.cuts += 1;
                 if self.host.bound()
@@ -195,42 +108,13 @@ impl<D: Device, R: Reference> World<'_, D, R> {
                 self.reference.hand(&raw);
                 self.same_states("a handed state")
             }
-            Event::Call(drawn) => self.call(&drawn),
+            Event::Call => {
+                // A named store is done before the next call.
+                self.carry_out()?;
+                let drawn = draw::call(&mut self.host, self.reference.model())?;
+                self.call(&drawn)
+            }
         }
-    }
-
-    fn draw(&mut self) -> Event {
-        let host = &mut self.host;
-        let cuts = match host.style {
-            Style::Plain | Style::Points | Style::Aged => 8,
-            Style::Wild | Style::Odd => 3,
-            Style::Journal => 1,
-            // More of them where a store comes up seldom.
-            Style::Cuts => match self.reference.model().map(|model| model.due) {
-                Some(Due::File | Due::Version | Due::TruncateDelete { .. }) => 250,
-                Some(Due::RecoverEpoch | Due::RecoverEmpty | Due::RecoverSeal) => 80,
-                _ => 35,
-            },
-            Style::Long => 0,
-        };
-        let cut_now = host.style == Style::Long && draw::long_is_full(host, self.reference.model());
-        if cut_now || host.rng.permille(cuts) {
-            host.filled |= cut_now;
-            return Event::Cut { done: cut_now || host.rng.permille(500) };
-        }
-        let handed = match host.style {
-            Style::Wild => 60,
-            Style::Odd => 350,
-            _ => 0,
-        };
-        if host.rng.permille(handed) {
-            return Event::Hand(Box::new(draw::odd(host, self.reference.model())));
-        }
-        // A named store is done before the next call.
-        if let Err(what) = self.carry_out() {
-            return Event::Call(Drawn::failed(what));
-        }
-        Event::Call(draw::call(&mut self.host, self.reference.model()))
     }
 
     /// Carries out the named store.
@@ -258,9 +142,6 @@ impl<D: Device, R: Reference> World<'_, D, R> {
 
     /// Calls both, compares, and keeps the host's side.
     fn call(&mut self, drawn: &Drawn) -> Result<(), String> {
-        if let Some(what) = &drawn.failure {
-            return Err(what.clone());
-        }
         let call = &drawn.call;
         if self.host.bound()
             && let Some(model) = self.reference.model()
@@ -293,10 +174,7 @@ impl<D: Device, R: Reference> World<'_, D, R> {
     }
 
     fn same_states(&self, when: &str) -> Result<(), String> {
-        match self.device.differs(self.reference.model()) {
-            Some(what) => Err(format!("{when}: {what}")),
-            None => Ok(()),
-        }
+        self.device.differs(self.reference.model()).map_or(Ok(()), |what| Err(format!("{when}: {what}")))
     }
 
     /// Keeps what a call named and put out, and asserts what holds of the whole history.
@@ -304,7 +182,8 @@ impl<D: Device, R: Reference> World<'_, D, R> {
         let call = &drawn.call;
         let host = &mut self.host;
         let bound = host.bound();
-        if bound && drawn.own && answer.is_err() {
+        let own = |vault: &Vault, key: &[u8]| *vault == host.vault && key == host.cipher.key();
+        if bound && answer.is_err() && matches!(call, Call::Load { vault, key } if own(vault, key)) {
             return Err("Load does not take the vault's own numbers".to_string());
         }
         if bound && drawn.faithful {
@@ -359,21 +238,12 @@ impl<D: Device, R: Reference> World<'_, D, R> {
             _ if taken.len > 0 => return Err("bytes put out without a card store".to_string()),
             _ => {}
         }
-        if bound && taken.len > 0 {
-            // What the nonce is made of: kind, lane, and the number or seal number.
-            let mut nonce = [0; 20];
-            nonce[..2].copy_from_slice(&bytes[..2]);
-            nonce[12..].copy_from_slice(&bytes[12..20]);
-            if !self.nonces.insert(nonce) {
-                return Err("a nonce is used twice".to_string());
-            }
+        if bound && taken.len > 0 && !self.nonces.insert((bytes[0], bytes[1], number_at(&bytes, 12, 8))) {
+            return Err("a nonce is used twice".to_string());
         }
         let line = match call {
-            Call::Commit { record } => sealed::open_record(&host.params, &host.cipher, record).map(|record| Line {
-                lane: record.lane,
-                number: record.number,
-                transaction: record.transaction,
-            }),
+            Call::Commit { record } => sealed::open_record(&host.params, &host.cipher, record)
+                .map(|sealed::Record { lane, number, transaction, .. }| Line { lane, number, transaction }),
             _ => None,
         };
         self.pending = taken.store.map(|store| Pending { store, bytes, line });
