@@ -19,7 +19,7 @@ use std::io;
 use std::path::{Path, PathBuf};
 
 use crate::files::{self, Disk, Fault};
-use crate::{FILE_LEN, LOG_LEN, RECORD_LEN};
+use crate::limits::{FILE_LEN, LOG_LEN, RECORD_LEN};
 
 /// The file that names the generation.
 const LOG: &str = "log";

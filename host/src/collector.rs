@@ -6,7 +6,9 @@
 
 use std::fmt;
 
-use crate::{METERS, Numbers, ffi, words};
+pub use crate::ffi::Vault as Numbers;
+use crate::limits::METERS;
+use crate::{ffi, words};
 
 /// A store that the host has to carry out before the next call.
 #[derive(Clone, Copy, Debug, PartialEq, Eq)]

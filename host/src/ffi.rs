@@ -3,7 +3,7 @@
 //! Flags and codes are single bytes, as in C. The assertions below hold every size and every offset to those of the
 //! header on x86-64; where one is wrong, this crate does not compile.
 
-use crate::{KEY_LEN, LANES, METERS, POINTS, RECORDS, TRANSACTION_LEN};
+use crate::limits::{KEY_LEN, LANES, METERS, POINTS, RECORDS, TRANSACTION_LEN};
 
 /// The vault's 27 numbers (`paviluko_vault`).
 #[repr(C)]

@@ -8,9 +8,9 @@ use std::fs::{self, File, OpenOptions, TryLockError};
 use std::io::Read;
 use std::path::{Path, PathBuf};
 
-use crate::KEY_LEN;
 use crate::card::Card;
 use crate::files::{self, Disk, Fault};
+use crate::limits::KEY_LEN;
 use crate::vault::VaultFile;
 
 const KEY: &str = "key";

@@ -6,6 +6,9 @@
 //! For the bench there is a whole box in a folder: a vault kept in a file (`vault`), a card kept in a folder (`card`), and a
 //! runner that carries out exactly the one named store before the next call (`runner`). The program `paviluko` runs it.
 //!
+//! A module uses only those named before it: `limits`, `ffi`, `words`, `collector`, `files`, `vault`, `card`, `folder`,
+//! `runner`; `transaction` uses `limits`.
+//!
 //! ```no_run
 //! use paviluko_host::{Collector, Numbers, Store};
 //!
@@ -26,33 +29,13 @@ pub mod collector;
 pub mod ffi;
 pub mod files;
 pub mod folder;
+pub mod limits;
 pub mod runner;
 pub mod transaction;
 pub mod vault;
 pub mod words;
 
-pub use collector::{Collector, Due, Phase, Reading, Refusal, Store, Taken};
-pub use ffi::Vault as Numbers;
-
-/// Lanes of a collector.
-pub const LANES: usize = 8;
-/// Meters of a table.
-pub const METERS: usize = 256;
-/// Records that may stand at or above the newest point.
-pub const RECORDS: usize = 128;
-/// Points that are kept.
-pub const POINTS: usize = 8;
-/// Writes of the longest transaction.
-pub const WRITES: usize = 16;
-/// Bytes of a key.
-pub const KEY_LEN: usize = 16;
-/// Bytes of the longest transaction.
-pub const TRANSACTION_LEN: usize = 8 + 8 * WRITES;
-/// Bytes of the longest record.
-pub const RECORD_LEN: usize = TRANSACTION_LEN + 40;
-/// Bytes of a checkpoint file.
-pub const FILE_LEN: usize = METERS * 24 + 40;
-/// Bytes of the longest log that Recover takes.
-pub const LOG_LEN: usize = 262_144;
-/// The greatest number that the vault can hold.
-pub const COUNTER_MAX: u64 = (1 << 48) - 1;
+pub use collector::{Collector, Due, Numbers, Phase, Reading, Refusal, Store, Taken};
+pub use limits::{
+    COUNTER_MAX, FILE_LEN, KEY_LEN, LANES, LOG_LEN, METERS, POINTS, RECORD_LEN, RECORDS, TRANSACTION_LEN, WRITES,
+};

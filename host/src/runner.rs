@@ -9,10 +9,11 @@ use std::fmt;
 use std::path::Path;
 
 use crate::card::{Card, Log};
+use crate::collector::{Collector, Numbers, Phase, Refusal, Store, Taken};
 use crate::files::{Disk, Fault};
 use crate::folder::BoxFolder;
+use crate::limits::{FILE_LEN, KEY_LEN};
 use crate::vault::VaultFile;
-use crate::{Collector, FILE_LEN, KEY_LEN, Numbers, Phase, Refusal, Store, Taken};
 
 /// On which side of a store the power fails.
 #[derive(Clone, Copy, Debug, PartialEq, Eq)]

@@ -1,6 +1,6 @@
 //! Transactions in 01's layout, from what a person writes: words of a command, or lines of a CSV file.
 
-use crate::WRITES;
+use crate::limits::WRITES;
 
 /// A meter's reading in a transaction. Nothing is checked here: the library refuses what is not in the layout.
 #[derive(Clone, Copy, Debug, PartialEq, Eq)]

@@ -6,8 +6,9 @@
 
 use std::path::{Path, PathBuf};
 
+use crate::collector::{Numbers, Store};
 use crate::files::{self, Disk, Fault};
-use crate::{LANES, Numbers, Store};
+use crate::limits::LANES;
 
 /// The file's name in a box's folder.
 const NAME: &str = "vault";

@@ -1,0 +1,24 @@
+//! The scope's limits and lengths.
+
+/// Lanes of a collector.
+pub const LANES: usize = 8;
+/// Meters of a table.
+pub const METERS: usize = 256;
+/// Records that may stand at or above the newest point.
+pub const RECORDS: usize = 128;
+/// Points that are kept.
+pub const POINTS: usize = 8;
+/// Writes of the longest transaction.
+pub const WRITES: usize = 16;
+/// Bytes of a key.
+pub const KEY_LEN: usize = 16;
+/// Bytes of the longest transaction.
+pub const TRANSACTION_LEN: usize = 8 + 8 * WRITES;
+/// Bytes of the longest record.
+pub const RECORD_LEN: usize = TRANSACTION_LEN + 40;
+/// Bytes of a checkpoint file.
+pub const FILE_LEN: usize = METERS * 24 + 40;
+/// Bytes of the longest log that Recover takes.
+pub const LOG_LEN: usize = 262_144;
+/// The greatest number that the vault can hold.
+pub const COUNTER_MAX: u64 = (1 << 48) - 1;
