@@ -20,7 +20,7 @@ use Rattle.aes_key.specs.Sbox.{bit, affineBit, affineBits, affine, sbox}
 use Rattle.transaction.specs.Every.{allBelow}
 use Rattle.transaction.proofs.EveryLaws.{and-true, all-at}
 use Rattle.transaction.specs.Signed.{signedOf}
-use Rattle.transaction.specs.Transaction.{writeCount, sized, stampOf, writeIn, writeAt, lowest, legalWrite, legal}
+use Rattle.transaction.specs.Transaction.{writeCount, legalLen, stampOf, writeIn, writeAt, lowest, legalWrite, legal}
 use Rattle.table.specs.Table.{emptyTable, entryOf, entryAt, put, putTo, entered}
 use Rattle.table.proofs.EnteredLaws.{empty-canonical}
 use Rattle.table.specs.Order.{lex, later, latest}
@@ -56,7 +56,7 @@ module _ (key : List ℕ) where
   sealed-is : (sealedOf key 1 ≡ recordBytes (aesGcm key) 0 0 1 (transaction 0 1))
       × (sealedOf key 16 ≡ recordBytes (aesGcm key) 0 0 1 (transaction 0 16))
       × (display (accept (served key) (transaction 0 17) 0 10) ≡ 4)
-  unfolding sealedOf served loaded newVault inService number accept seal refuse ready valid vaultOk laneOk holds heldRecord accepted holding listedMore tooLow legal sized writeCount transaction someWrites littleBytes allBelow legalWrite writeAt writeIn lowest little padded
+  unfolding sealedOf served loaded newVault inService number accept seal refuse ready valid vaultOk laneOk holds heldRecord accepted holding listedMore tooLow legal legalLen writeCount transaction someWrites littleBytes allBelow legalWrite writeAt writeIn lowest little padded
   sealed-is = (refl, refl, refl)
 
   m1 : Marked key 1
@@ -151,7 +151,7 @@ module _ (key : List ℕ) where
   by-log f r v w ns expected long h fit few e = ap f (from-log r v w ns long h fit few) ∙ e
 
   m4-m9 : length key ≡ 16 → Marked key 4 × Marked key 5 × Marked key 6 × Marked key 7 × Marked key 8 × Marked key 9
-  unfolding sheet read number vaultOf vaultOk laneOk allFit legal sized writeCount transaction someWrites littleBytes allBelow legalWrite writeAt writeIn lowest little padded recoverRead ended follow goOn stepOpened passedOver orStop behind missingFrom orMissing loaded recovered entered putTo put entryAt entryOf emptyTable latest stampOf signedOf
+  unfolding sheet read number vaultOf vaultOk laneOk allFit legal legalLen writeCount transaction someWrites littleBytes allBelow legalWrite writeAt writeIn lowest little padded recoverRead ended follow goOn stepOpened passedOver orStop behind missingFrom orMissing loaded recovered entered putTo put entryAt entryOf emptyTable latest stampOf signedOf
   m4-m9 long = (
     by-log read 3 5 5 (4 ∷ 5 ∷ []) _ long refl refl (omega arith) refl,
     by-log (λ a. display a ∷ []) 3 5 5 (5 ∷ 4 ∷ []) _ long refl refl (omega arith) refl,
@@ -170,7 +170,7 @@ m10 key = refl
 -- ---- M11
 
 fit-one : legal (transaction 0 1) ≡ true
-unfolding legal sized writeCount transaction someWrites littleBytes allBelow legalWrite writeAt writeIn lowest little padded
+unfolding legal legalLen writeCount transaction someWrites littleBytes allBelow legalWrite writeAt writeIn lowest little padded
 fit-one = refl
 
 -- a state in which a transaction was accepted at a position and sealed
@@ -205,7 +205,7 @@ module _ (key : List ℕ) where
   second = committed (sealedAt first 20) (one 2)
 
   two-is : two key ≡ second
-  unfolding two served loaded newVault inService accept seal refuse ready valid vaultOk laneOk holds heldRecord accepted holding listedMore tooLow legal sized writeCount transaction someWrites littleBytes allBelow legalWrite writeAt writeIn lowest little padded commitOpened outOfTurn committed
+  unfolding two served loaded newVault inService accept seal refuse ready valid vaultOk laneOk holds heldRecord accepted holding listedMore tooLow legal legalLen writeCount transaction someWrites littleBytes allBelow legalWrite writeAt writeIn lowest little padded commitOpened outOfTurn committed
   two-is =
       ap (λ (c : State). visibleAt c 20) (visible-is (served key) (sealedAt (served key) 10) 10 1 refl (omega arith) refl refl)
       ∙ visible-is first (sealedAt first 20) 20 2 refl (omega arith) refl refl
@@ -214,7 +214,7 @@ module _ (key : List ℕ) where
   pointing c = counted (point c 20) ∷ counted (point c 21) ∷ display (acceptAt (point c 21 .state) 21) ∷ display (acceptAt (point c 21 .state) 22) ∷ []
 
   second-points : pointing second ≡ 1 ∷ 2 ∷ 6 ∷ 0 ∷ []
-  unfolding counted number point pointed pointsMore journalOf marksOf marksTo marksFrom laneCount unseenBelow countsAt pointAt served loaded newVault inService accept refuse ready valid vaultOk laneOk accepted holding listedMore tooLow legal sized writeCount transaction someWrites littleBytes allBelow legalWrite writeAt writeIn lowest little padded committed
+  unfolding counted number point pointed pointsMore journalOf marksOf marksTo marksFrom laneCount unseenBelow countsAt pointAt served loaded newVault inService accept refuse ready valid vaultOk laneOk accepted holding listedMore tooLow legal legalLen writeCount transaction someWrites littleBytes allBelow legalWrite writeAt writeIn lowest little padded committed
   second-points = refl
 
   m11 : Marked key 11

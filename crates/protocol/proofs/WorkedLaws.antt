@@ -19,7 +19,7 @@ use Rattle.octets.specs.Little.{little}
 use Rattle.octets.proofs.BoolLaws.{and-left, and-right}
 use Rattle.transaction.specs.Every.{allBelow}
 use Rattle.transaction.specs.Signed.{signedOf}
-use Rattle.transaction.specs.Transaction.{legal, sized, writeCount, stampOf, writeAt, writeIn, lowest, legalWrite}
+use Rattle.transaction.specs.Transaction.{legal, legalLen, writeCount, stampOf, writeAt, writeIn, lowest, legalWrite}
 use Rattle.table.specs.declared.Table.{Table}
 use Rattle.table.specs.Order.{latest}
 use Rattle.table.specs.Table.{noEntry, emptyTable, entryOf, entryAt, put, putTo, entered}
@@ -80,7 +80,7 @@ unfolding text small
 text-bytes = small-at text refl
 
 text-legal : legal text ≡ true
-unfolding text legal sized writeCount allBelow legalWrite writeAt writeIn lowest little padded
+unfolding text legal legalLen writeCount allBelow legalWrite writeAt writeIn lowest little padded
 text-legal = refl
 
 -- its record can be put out, and so can several of it
@@ -276,7 +276,7 @@ module _ (key : List ℕ) where
   go-accept = record { keeps = (text-bytes, tt); shows = rw text-legal; ends = rw text-legal }
 
   go-seal : Goes numbered (call (callSeal 56) ∷ []) (0 ∷ []) written
-  unfolding run shownBy shownAt number Premises Honest numbered written next answer answerOf addsOf afterAnswer afterSaid done cardAfter vaultAfter bookAfter withSealings sealedBy seal holds heldRecord valid vaultOk laneOk allBelow listedMore holding refuse text legal sized writeCount legalWrite writeAt writeIn lowest little padded
+  unfolding run shownBy shownAt number Premises Honest numbered written next answer answerOf addsOf afterAnswer afterSaid done cardAfter vaultAfter bookAfter withSealings sealedBy seal holds heldRecord valid vaultOk laneOk allBelow listedMore holding refuse text legal legalLen writeCount legalWrite writeAt writeIn lowest little padded
   go-seal = record { keeps = (tt, tt); shows = refl; ends = refl }
 
   -- what was sealed opens

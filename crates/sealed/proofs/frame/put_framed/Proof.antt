@@ -1,3 +1,4 @@
+-- `sealed::frame::put_framed` meets its contract: head, sealed text and trailer are put one behind the other. Assumes nothing.
 use Rattle.gcm.proofs.SealLaws.{length-sealed}
 use mathlib.Core.Path.{ap₂}
 use Rattle.sealed.proofs.FrameLaws.{put-parts, sealed-front}
@@ -15,7 +16,6 @@ use lib.Seq.{length-take-le}
 use lib.ListN.{length, take}
 use native.Mathlib.Nat.{le-of-eq}
 use mathlib.Core.List.{List, _++_}
--- `sealed::frame::put_framed` meets its contract: head, sealed text and trailer are put one behind the other. Assumes nothing.
 use borrow.Author.Needs.{needs}
 use native.Mathlib.Omega.{arith}
 use mathlib.Core.Path.{_≡_, refl, sym, ap, _∙_}

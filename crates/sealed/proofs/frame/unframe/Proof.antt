@@ -1,3 +1,4 @@
+-- `sealed::frame::unframe` meets its contract: the trailer is compared, and the rest is opened under the head. Assumes nothing.
 use Rattle.octets.specs.Lists.{putOver}
 use Rattle.sealed.proofs.FrameLaws.{unframe-not, unframe-opens}
 use Rattle.sealed.specs.Frame.{trailerOf, isSome}
@@ -9,11 +10,10 @@ use Rattle.octets.proofs.PartLaws.{mid-rest}
 use Rattle.octets.specs.Little.{little}
 use Rattle.octets.specs.Bytes.{padded}
 use lib.Seq.{length-take-le}
-use lib.ListN.{length, take}
+use lib.ListN.{length}
 use mathlib.Core.Option.{Option}
 use mathlib.Core.List.{List}
 use native.Mathlib.Nat.{le-of-eq}
--- `sealed::frame::unframe` meets its contract: the trailer is compared, and the rest is opened under the head. Assumes nothing.
 use borrow.Author.Needs.{needs}
 use native.Mathlib.Omega.{arith}
 use mathlib.Core.Path.{sym, ap, _∙_}
