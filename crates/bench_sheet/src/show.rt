@@ -10,7 +10,7 @@ use super::words::SBOX;
 use super::words::UNKNOWN;
 use super::write;
 use collector::Collector;
-use sealed::record;
+use sealed::record::RECORD_KIND;
 
 // How many numbers of lane 0 a point counts.
 fn counts(c: Collector, position: u64) -> u64 {
@@ -49,7 +49,7 @@ fn sbox(x: u8) -> u8 {
 }
 
 fn nonce(name: &[u8], lane: u8, number: u64) {
-    let n = record::nonce_of(lane, number);
+    let n = sealed::nonce_of(RECORD_KIND, lane, number);
     write::listed(name, &n);
 }
 

@@ -27,7 +27,8 @@ use Rattle.table.specs.Order.{lex, later, latest}
 use Rattle.sealed.specs.Aead.{aesGcm}
 use Rattle.sealed.specs.Checkpoint.{fileLen, legalFile, openFile}
 use Rattle.sealed.specs.Record.{Opened, recordBytes, openRecord}
-use Rattle.sealed.proofs.RecordTrip.{length-one, length-most, record-opens, nonce-m3}
+use Rattle.sealed.proofs.NonceLaws.{nonce-m3}
+use Rattle.sealed.proofs.RecordTrip.{length-one, length-most, record-opens}
 use Rattle.protocol.specs.Vaults.{counterMax, newVault, vaultOk, laneOk, setS}
 use Rattle.protocol.specs.States.{valid, ready, withVault}
 use Rattle.protocol.specs.Said.{Answered, taking, refuse}

@@ -39,14 +39,7 @@ use Rattle.sealed.specs.declared.file.FileRead.{FileRead}
 use Rattle.sealed.specs.declared.file.FilePut.the-variants as P
 use Rattle.sealed.proofs.FrameTrip.{Grows, Opens, aes-grows, aes-opens, length-framed, frame-trip, prepared-framed, prepared-unframed}
 
--- ---- head and nonce, byte after byte
-
-abbrev nonceLaid : List ℕ → List ℕ
-nonceLaid i = fileKind ∷ 0 ∷ 0 ∷ 0 ∷ tab 8 (at i)
-
-pub nonce-laid : (seal : ℕ) {i : List ℕ} → i ≡ littleBytes 8 seal → nonceLaid i ≡ fileNonce seal
-unfolding littleBytes fileNonce
-nonce-laid seal e = ap nonceLaid e
+-- ---- the head, byte after byte
 
 abbrev headLaid : List ℕ → List ℕ → List ℕ
 headLaid v i = fileKind ∷ 0 ∷ 0 ∷ 0 ∷ (tab 8 (at v) ++ tab 8 (at i))

@@ -1,5 +1,6 @@
--- FrameLaws: a text in its frame, as the code puts it and takes it. FrameTrip: what was framed is there again, under any cipher that opens what
+-- NonceLaws: nonces. FrameLaws: a text in its frame, as the code puts it and takes it. FrameTrip: what was framed is there again, under any cipher that opens what
 -- it sealed; prepared keys. RecordLaws, FileLaws: log records and checkpoint files. LogTrip: records in a log, and beside files.
+pub mod NonceLaws
 pub mod FrameLaws
 pub mod FrameTrip
 pub mod RecordLaws

@@ -2,7 +2,7 @@
 -- Nonce: 2, 0, 0, 0, seal number (8)." Its text is a table.
 -- "Bytes open only if lengths, kind, lane, n, trailer, zero bytes, tag and text are all right."
 -- Assumes nothing.
-use Prim.Native.Nat.{ℕ, _+_, _-_}
+use Prim.Native.Nat.{ℕ, _+_}
 use mathlib.Core.Bool.{Bool, cond, _&&_}
 use mathlib.Core.List.{List, [], _∷_, _++_}
 use mathlib.Core.Option.{Option, some, none}
@@ -15,8 +15,8 @@ use Rattle.table.specs.declared.Table.{Table}
 use Rattle.table.specs.Table.{emptyTable}
 use Rattle.table.specs.TableText.{tableLen, tableText, isTable, tableFrom}
 use Rattle.sealed.specs.Aead.{Aead}
+use Rattle.sealed.specs.Nonce.{nonceOf}
 use Rattle.sealed.specs.Frame.{frameLen, framed, unframed}
-use Rattle.sealed.specs.declared.file.FileHead.{FileHead}
 use Rattle.sealed.specs.declared.file.FileHead.the-variants as H
 use Rattle.sealed.specs.declared.file.FileRead.{FileRead}
 use Rattle.sealed.specs.declared.file.FilePut.{FilePut}
@@ -33,8 +33,8 @@ fileLen = tableLen + frameLen
 unfoldable pub fileHead : ℕ → ℕ → List ℕ
 fileHead version seal = fileKind ∷ 0 ∷ 0 ∷ 0 ∷ (littleBytes 8 version ++ littleBytes 8 seal)
 
-unfoldable pub fileNonce : ℕ → List ℕ
-fileNonce seal = fileKind ∷ 0 ∷ 0 ∷ 0 ∷ littleBytes 8 seal
+abbrev pub fileNonce : ℕ → List ℕ
+fileNonce seal = nonceOf fileKind 0 seal
 
 unfoldable pub fileBytes : Aead → ℕ → ℕ → Table → List ℕ
 fileBytes a version seal t = framed a (fileNonce seal) (fileHead version seal) (tableText t)

@@ -6,10 +6,11 @@ ghost use Rattle.octets.specs.Lists.{putOver};
 ghost use Rattle.aes.specs.Cipher.{cipher};
 ghost use Rattle.ghash.specs.Multiples.{productBy};
 ghost use Rattle.sealed.specs.Aead.{gcmBy};
-ghost use Rattle.sealed.specs.Checkpoint.{fileHead, fileNonce, fileBytes, fileAnswer, filePut, legalFile, openFile, shownFile};
+ghost use Rattle.sealed.specs.Checkpoint.{fileHead, fileBytes, fileAnswer, filePut, legalFile, openFile, shownFile};
 use super::frame;
 use super::frame::FRAME_LEN;
 use super::frame::HEAD_LEN;
+use super::frame::nonce_of;
 use octets::little;
 use table::TABLE_LEN;
 use table::Table;
@@ -71,27 +72,6 @@ fn head_of(version: u64, seal: u64) -> [u8; HEAD_LEN]
     ]
 }
 
-// The 12 bytes of a nonce.
-fn nonce_of(seal: u64) -> [u8; 12]
-    ensures { λ r. ⌜ r ≡ fileNonce seal ⌝ }
-{
-    let i = little::bytes8(seal);
-    [
-        FILE_KIND,
-        0,
-        0,
-        0,
-        i[0],
-        i[1],
-        i[2],
-        i[3],
-        i[4],
-        i[5],
-        i[6],
-        i[7],
-    ]
-}
-
 // Whether s has the length of a file, its kind and its three zero bytes.
 fn legal_file(s: &[u8]) -> bool
     ensures { λ r. ⌜ r ≡ legalFile (now (s .entry)) ⌝ }
@@ -123,7 +103,7 @@ pub fn open_file<'a>(w: &'a [u32; 44], m: &'a [u64; 1024], s: &[u8]) -> FileRead
     let version = little::u64_in(&s[4..]);
     let seal = little::u64_in(&s[12..]);
     let mut text = [0u8; TABLE_LEN];
-    if !frame::unframe(w, m, nonce_of(seal), s, &mut text) {
+    if !frame::unframe(w, m, nonce_of(FILE_KIND, 0, seal), s, &mut text) {
         return closed();
     }
     let read = table::table_in(&text);
@@ -157,7 +137,7 @@ pub fn seal_file<'a>(
     frame::put_framed(
         w,
         m,
-        nonce_of(seal),
+        nonce_of(FILE_KIND, 0, seal),
         head_of(version, seal),
         &mut body,
         TABLE_LEN,

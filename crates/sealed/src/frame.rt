@@ -1,4 +1,4 @@
-// A text in its frame: head, ciphertext, tag, and a trailer with the whole length.
+// A text in its frame: head, ciphertext, tag, and a trailer with the whole length; and its nonce.
 ghost use mathlib.Core.Path.{_≡_};
 ghost use Prim.Native.Nat.{_+_, _-_, _≤_};
 ghost use lib.ListN.{length, take};
@@ -8,6 +8,7 @@ ghost use Rattle.ghash.specs.Multiples.{productBy};
 ghost use Rattle.gcm.specs.Gcm.{tagLen};
 ghost use Rattle.gcm.specs.Answers.{textPut};
 ghost use Rattle.sealed.specs.Aead.{gcmBy};
+ghost use Rattle.sealed.specs.Nonce.{nonceOf};
 ghost use Rattle.sealed.specs.Frame.{frameLen, framed, unframed, isSome, isText};
 use gcm::Opening;
 use octets::little;
@@ -18,6 +19,27 @@ pub const HEAD_LEN: usize = 20;
 pub const TRAILER_LEN: usize = 4;
 
 pub const FRAME_LEN: usize = HEAD_LEN + gcm::TAG_LEN + TRAILER_LEN;
+
+// The 12 bytes of a nonce: the kind, the lane, which is 0 for a file, two zeros, and the number.
+pub fn nonce_of(first: u8, lane: u8, number: u64) -> [u8; 12]
+    ensures { λ r. ⌜ r ≡ nonceOf first lane number ⌝ }
+{
+    let i = little::bytes8(number);
+    [
+        first,
+        lane,
+        0,
+        0,
+        i[0],
+        i[1],
+        i[2],
+        i[3],
+        i[4],
+        i[5],
+        i[6],
+        i[7],
+    ]
+}
 
 // Whether opening gave a text.
 fn is_text(answer: Opening) -> bool

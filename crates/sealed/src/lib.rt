@@ -8,3 +8,4 @@ mod frame;
 pub mod record;
 
 pub use frame::FRAME_LEN;
+pub use frame::nonce_of;

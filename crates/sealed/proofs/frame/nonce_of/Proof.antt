@@ -1,11 +1,13 @@
--- `sealed::file::nonce_of` meets its contract: the bytes of the seal number stand behind the kind and three zeros. Assumes nothing.
-use Rattle.sealed.proofs.FileLaws.{nonce-laid}
+-- `sealed::frame::nonce_of` meets its contract: the number's bytes in their places. Assumes nothing.
+use Rattle.sealed.specs.Nonce.{nonceOf}
+use Rattle.octets.specs.Little.{littleBytes}
 use borrow.Author.Needs.{needs}
-use Rattle.sealed.proofs.file.nonce_of.Statement.{statement}
-use Rattle.sealed.proofs.file.nonce_of.Tie as tie
+use Rattle.sealed.proofs.frame.nonce_of.Statement.{statement}
+use Rattle.sealed.proofs.frame.nonce_of.Tie as tie
 
 returns : tie.Need-returns
-returns c = nonce-laid (c .before .args .seal) (c .bytes8 .ensures)
+unfolding nonceOf littleBytes
+returns c = rw (c .bytes8 .ensures)
 
 pub nonce-of-spec : {M : Type 1} → statement M
 nonce-of-spec =
