@@ -1,7 +1,7 @@
 -- What the theorem takes from the layers below: the bytes of a record and of a file under the one key, what can be written as such, and that
 -- what was sealed opens to what was sealed. The proofs above use these laws and never the layouts or the cipher.
 -- Assumes nothing.
-use Prim.Native.Nat.{ℕ, _-_, _≤_, _<_}
+use Prim.Native.Nat.{ℕ, _+_, _-_, _≤_, _<_}
 use mathlib.Core.Path.{_≡_}
 use mathlib.Core.Bool.{true}
 use mathlib.Core.List.{List, []}
@@ -9,7 +9,7 @@ use mathlib.Core.Option.{Option, some}
 use native.Mathlib.Omega.{arith}
 use lib.ListN.{length}
 use Rattle.octets.specs.Lists.{at}
-use Rattle.transaction.specs.Transaction.{legal}
+use Rattle.transaction.specs.Transaction.{minText, maxText, legal}
 use Rattle.transaction.proofs.TransactionLaws.{length-bounds}
 use Rattle.table.specs.Table.{lanes, entered}
 use Rattle.table.specs.Written.{written}
@@ -21,6 +21,7 @@ use Rattle.sealed.specs.Record.{Opened, recordBytes, openRecord}
 use Rattle.sealed.specs.Checkpoint.{OpenedFile, fileBytes, legalFile, openFile}
 use Rattle.sealed.proofs.RecordTrip.{length-record, record-opens}
 use Rattle.sealed.proofs.FileLaws as Files
+use Rattle.sealed.specs.Frame.{frameLen}
 use Rattle.protocol.specs.Vaults.{counterMax}
 
 -- what a record writes to a meter, if it does
@@ -64,8 +65,8 @@ module _ (key : List ℕ) where
   unfolding openFile legalFile
   empty-file f e = let z : _≡_ {A = ℕ} 0 1 = cc in absurd (omega arith)
 
-  -- 56 to 176 bytes
-  pub size : (r : Opened) → Writable r → (56 ≤ length (bytesOf r)) × (length (bytesOf r) ≤ 176)
+  -- as long as the shortest at least, and as the longest at most
+  pub size : (r : Opened) → Writable r → (minText + frameLen ≤ length (bytesOf r)) × (length (bytesOf r) ≤ maxText + frameLen)
   size r w =
       let b = length-bounds (r .text) (w .fine) in
       let l = length-record key (r .lane) (r .epoch) (r .number) (r .text) in

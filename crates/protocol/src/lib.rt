@@ -3,6 +3,7 @@
 // This crate has the declared types and the definitions of the eight operations over them (specs/). It has no code: the
 // crates of the operations have it, and their contracts cite these definitions.
 use table::Table;
+use transaction::MAX_TEXT;
 
 // The vault's 27 numbers. For each lane: w, the numbers handed out; v, the numbers visible; r, the numbers truncated.
 // The epoch e, the checkpoint version s, and the checkpoint seal number n.
@@ -92,7 +93,7 @@ pub struct Points {
 // The transaction that Accept holds for Seal.
 #[repr(C)]
 pub struct Held {
-    pub text: [u8; 136],
+    pub text: [u8; MAX_TEXT],
     pub len: usize,
     pub lane: u8,
     pub position: u64,

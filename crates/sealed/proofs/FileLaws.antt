@@ -22,18 +22,19 @@ use Rattle.octets.proofs.PartLaws.{mid-rest}
 use Rattle.aes.specs.Cipher.{cipher}
 use Rattle.aes.proofs.CounterLaws.{cipher-length}
 use Rattle.ghash.specs.Multiples.{productBy}
-use Rattle.gcm.specs.Gcm.{onlyIf, tagOf, cipherText, opened}
+use Rattle.gcm.specs.Gcm.{tagLen, onlyIf, tagOf, cipherText, opened}
 use Rattle.gcm.specs.Answers.{textPut}
 use Rattle.gcm.specs.Key.{prepared}
 use Rattle.gcm.proofs.SealLaws.{length-cipher-text}
+use Rattle.transaction.specs.Transaction.{meters}
 use Rattle.table.specs.declared.Table.{Table}
 use Rattle.table.specs.Canonical.{CanonicalTable}
-use Rattle.table.specs.TableText.{tableText, isTable, tableFrom}
+use Rattle.table.specs.TableText.{tableLen, tableText, isTable, tableFrom}
 use Rattle.table.proofs.TextLaws.{length-table}
 use Rattle.table.proofs.RoundTrip.{text-is-table, table-back}
 use Rattle.sealed.specs.Aead.{Aead, aesGcm, gcmBy}
-use Rattle.sealed.specs.Frame.{framed, unframed, trailerOf, isSome}
-use Rattle.sealed.specs.Checkpoint.{fileKind, fileHead, fileNonce, fileBytes, fileAnswer, filePut, versionOf, sealOf, legalFile, openedTable, openFile, shownFile}
+use Rattle.sealed.specs.Frame.{headLen, trailerLen, frameLen, framed, unframed, trailerOf, isSome}
+use Rattle.sealed.specs.Checkpoint.{fileLen, fileKind, fileHead, fileNonce, fileBytes, fileAnswer, filePut, versionOf, sealOf, legalFile, openedTable, openFile, shownFile}
 use Rattle.sealed.specs.declared.file.FileHead.the-variants as H
 use Rattle.sealed.specs.declared.file.FileRead.{FileRead}
 use Rattle.sealed.specs.declared.file.FilePut.the-variants as P
@@ -48,7 +49,7 @@ pub head-laid : (version seal : ℕ) {v i : List ℕ} → v ≡ littleBytes 8 ve
 unfolding littleBytes fileHead
 head-laid version seal ev ei = ap₂ headLaid ev ei
 
-pub length-head : (version seal : ℕ) → length (fileHead version seal) ≡ 20
+pub length-head : (version seal : ℕ) → length (fileHead version seal) ≡ headLen
 unfolding fileHead
 length-head version seal =
     let v = length-little 8 version in
@@ -58,46 +59,46 @@ length-head version seal =
 
 -- ---- whether bytes may be a file
 
-pub not-file : (s : List ℕ) → (length s ≡ 6184 → ⊥) → legalFile s ≡ false
+pub not-file : (s : List ℕ) → (length s ≡ fileLen → ⊥) → legalFile s ≡ false
 unfolding legalFile
-not-file s no-file = rw (ne-eqb (length s) 6184 no-file)
+not-file s no-file = rw (ne-eqb (length s) fileLen no-file)
 
-pub file-bytes : (s : List ℕ) → length s ≡ 6184 → legalFile s ≡ eqb (at s 0) 2 && eqb (at s 1) 0 && eqb (at s 2) 0 && eqb (at s 3) 0
+pub file-bytes : (s : List ℕ) → length s ≡ fileLen → legalFile s ≡ eqb (at s 0) fileKind && eqb (at s 1) 0 && eqb (at s 2) 0 && eqb (at s 3) 0
 unfolding legalFile
-file-bytes s l = rw (eq-eqb (length s) 6184 l)
+file-bytes s l = rw (eq-eqb (length s) fileLen l)
 
-pub legal-length : (s : List ℕ) → legalFile s ≡ true → length s ≡ 6184
+pub legal-length : (s : List ℕ) → legalFile s ≡ true → length s ≡ fileLen
 unfolding legalFile
 legal-length s e =
-    let p = eqb (length s) 6184 in
-    let a = eqb (at s 0) 2 in
+    let p = eqb (length s) fileLen in
+    let a = eqb (at s 0) fileKind in
     let b = eqb (at s 1) 0 in
     let d = eqb (at s 2) 0 in
-    eqb-true (length s) 6184 (and-left p a (and-left (p && a) b (and-left (p && a && b) d (and-left (p && a && b && d) (eqb (at s 3) 0) e))))
+    eqb-true (length s) fileLen (and-left p a (and-left (p && a) b (and-left (p && a && b) d (and-left (p && a && b && d) (eqb (at s 3) 0) e))))
 
 -- ---- sealing: the answer and the buffer
 
 module _ (o f : List ℕ) where
-  pub file-short : length o < 6184 → (P.Short 6184 ≡ fileAnswer (length o)) × (o ≡ putOver (filePut (fileAnswer (length o)) f) o)
+  pub file-short : length o < fileLen → (P.Short fileLen ≡ fileAnswer (length o)) × (o ≡ putOver (filePut (fileAnswer (length o)) f) o)
   unfolding fileAnswer filePut
-  file-short h = (rw (lt-ltb (length o) 6184 h), rw (lt-ltb (length o) 6184 h))
+  file-short h = (rw (lt-ltb (length o) fileLen h), rw (lt-ltb (length o) fileLen h))
 
-  pub file-done : {r : List ℕ} → 6184 ≤ length o → r ≡ putOver f o → (P.Done 6184 ≡ fileAnswer (length o)) × (r ≡ putOver (filePut (fileAnswer (length o)) f) o)
+  pub file-done : {r : List ℕ} → fileLen ≤ length o → r ≡ putOver f o → (P.Done fileLen ≡ fileAnswer (length o)) × (r ≡ putOver (filePut (fileAnswer (length o)) f) o)
   unfolding fileAnswer filePut
-  file-done h e = (rw (le-ltb (length o) 6184 h), rw (le-ltb (length o) 6184 h) e)
+  file-done h e = (rw (le-ltb (length o) fileLen h), rw (le-ltb (length o) fileLen h) e)
 
 -- the text that is sealed is the table's
-pub body-text : (t : Table) (z b : List ℕ) → length (t .entries) ≡ 256 → length z ≡ 6160 → b ≡ over (tableText t) z → take 6144 b ≡ tableText t
+pub body-text : (t : Table) (z b : List ℕ) → length (t .entries) ≡ meters → length z ≡ tableLen + tagLen → b ≡ over (tableText t) z → take tableLen b ≡ tableText t
 body-text t z b n l e =
     let lt = length-table t n in
-    ap (take 6144) (e ∙ over-room (tableText t) z (omega arith)) ∙ take-at (tableText t) (drop (length (tableText t)) z) 6144 lt
+    ap (take tableLen) (e ∙ over-room (tableText t) z (omega arith)) ∙ take-at (tableText t) (drop (length (tableText t)) z) tableLen lt
 
 -- and what is put in its frame is the file
-pub file-put : (a : Aead) (version seal : ℕ) (t : Table) (z : List ℕ) {nonce head b : List ℕ} → length (t .entries) ≡ 256 → length z ≡ 6160
-    → nonce ≡ fileNonce seal → head ≡ fileHead version seal → b ≡ over (tableText t) z → framed a nonce head (take 6144 b) ≡ fileBytes a version seal t
+pub file-put : (a : Aead) (version seal : ℕ) (t : Table) (z : List ℕ) {nonce head b : List ℕ} → length (t .entries) ≡ meters → length z ≡ tableLen + tagLen
+    → nonce ≡ fileNonce seal → head ≡ fileHead version seal → b ≡ over (tableText t) z → framed a nonce head (take tableLen b) ≡ fileBytes a version seal t
 unfolding fileBytes
 file-put a version seal t z {nonce} {head} {b} n l en eh eb =
-    ap₂ (λ (u v : List ℕ). framed a u v (take 6144 b)) en eh
+    ap₂ (λ (u v : List ℕ). framed a u v (take tableLen b)) en eh
     ∙ ap (framed a (fileNonce seal) (fileHead version seal)) (body-text t z b n l eb)
 
 -- ---- opening
@@ -127,16 +128,16 @@ module _ (ciph : List ℕ → List ℕ) (whole : (b : List ℕ) → 16 ≤ lengt
       sym (ap length (only-some (sameBytes t (tagOf ciph dot iv a c)) (cipherText ciph iv c) p e)) ∙ length-cipher-text ciph whole dot iv c
 
   -- a text that comes out of a frame is shorter by what the frame adds
-  pub unframed-length : (nonce s p : List ℕ) → unframed (gcmBy ciph dot) nonce s ≡ some p → length p ≡ length s - 40
+  pub unframed-length : (nonce s p : List ℕ) → unframed (gcmBy ciph dot) nonce s ≡ some p → length p ≡ length s - frameLen
   unfolding unframed gcmBy
   unframed-length nonce s p e =
-      let c = take (length s - 40) (drop 20 s) in
-      let o = cond-some (leb 40 (length s) && eqb (trailerOf s) (length s)) _ p e in
-      let lc : length c ≡ length s - 40 = length-take-le (length s - 40) (drop 20 s) (simp length-drop (omega arith)) in
-      opened-length nonce (take 20 s) c (take 16 (drop (length s - 40) (drop 20 s))) p o ∙ lc
+      let c = take (length s - frameLen) (drop headLen s) in
+      let o = cond-some (leb frameLen (length s) && eqb (trailerOf s) (length s)) _ p e in
+      let lc : length c ≡ length s - frameLen = length-take-le (length s - frameLen) (drop headLen s) (simp length-drop (omega arith)) in
+      opened-length nonce (take headLen s) c (take tagLen (drop (length s - frameLen) (drop headLen s))) p o ∙ lc
 
   -- what stands in a buffer of a table's length is all of the text
-  pub text-got : (nonce s z t : List ℕ) → length s ≡ 6184 → length z ≡ 6144 → isSome (unframed (gcmBy ciph dot) nonce s) ≡ true
+  pub text-got : (nonce s z t : List ℕ) → length s ≡ fileLen → length z ≡ tableLen → isSome (unframed (gcmBy ciph dot) nonce s) ≡ true
       → t ≡ putOver (textPut (unframed (gcmBy ciph dot) nonce s)) z → unframed (gcmBy ciph dot) nonce s ≡ some t
   text-got nonce s z t ls lz q e =
       let u = unframed (gcmBy ciph dot) nonce s in
@@ -177,7 +178,7 @@ module _ (w m s : List ℕ) {r : Bool} (er : r ≡ legalFile s) where
     is-legal : legalFile s ≡ true
     is-legal = sym er ∙ not-false r hr
 
-    pub read-length : length s ≡ 6184
+    pub read-length : length s ≡ fileLen
     read-length = legal-length s is-legal
 
     module _ {n : ℕ} (es : n ≡ little (padded 8 (midOf 12 (length s - 12) s))) {nonce : List ℕ} (en : nonce ≡ fileNonce n)
@@ -195,7 +196,7 @@ module _ (w m s : List ℕ) {r : Bool} (er : r ≡ legalFile s) where
       pub read-shut : not q ≡ true → shownFile none ≡ shownFile (openFile (gcmBy (cipher w) (productBy m)) s)
       read-shut h = ap shownFile (sym (open-shut (gcmBy (cipher w) (productBy m)) s is-legal (some-is ∙ not-true q h)))
 
-      module _ (hq : not q ≡ false) (z : List ℕ) {t : List ℕ} (lz : length z ≡ 6144) (et : t ≡ putOver (textPut (unframed (gcmBy (cipher w) (productBy m)) nonce s)) z)
+      module _ (hq : not q ≡ false) (z : List ℕ) {t : List ℕ} (lz : length z ≡ tableLen) (et : t ≡ putOver (textPut (unframed (gcmBy (cipher w) (productBy m)) nonce s)) z)
           {b : Bool} (eb : b ≡ isTable t) where
         got : unframed (gcmBy (cipher w) (productBy m)) (fileNonce (sealOf s)) s ≡ some t
         got =
@@ -228,11 +229,11 @@ number-front k n y h =
 
 module _ (a : Aead) (version seal : ℕ) (t : Table) where
   rest : List ℕ
-  rest = a .enc (fileNonce seal) (fileHead version seal) (tableText t) ++ littleBytes 4 (length (tableText t) + 40)
+  rest = a .enc (fileNonce seal) (fileHead version seal) (tableText t) ++ littleBytes trailerLen (length (tableText t) + frameLen)
 
-  file-laid : fileBytes a version seal t ≡ 2 ∷ 0 ∷ 0 ∷ 0 ∷ (littleBytes 8 version ++ (littleBytes 8 seal ++ rest))
+  file-laid : fileBytes a version seal t ≡ fileKind ∷ 0 ∷ 0 ∷ 0 ∷ (littleBytes 8 version ++ (littleBytes 8 seal ++ rest))
   unfolding fileBytes framed fileHead rest
-  file-laid = ap (λ (l : List ℕ). 2 ∷ 0 ∷ 0 ∷ 0 ∷ l) (append-assoc (littleBytes 8 version) (littleBytes 8 seal) _)
+  file-laid = ap (λ (l : List ℕ). fileKind ∷ 0 ∷ 0 ∷ 0 ∷ l) (append-assoc (littleBytes 8 version) (littleBytes 8 seal) _)
 
   -- a file shows its version and its seal number, whatever its table
   pub version-is : version < 2 ^ 64 → versionOf (fileBytes a version seal t) ≡ version
@@ -248,7 +249,7 @@ module _ (a : Aead) (version seal : ℕ) (t : Table) where
       ∙ number-front 8 seal rest h
 
 module _ (a : Aead) (grows : Grows a) (version seal : ℕ) (t : Table) (canonical : CanonicalTable t) where
-  pub length-file-by : length (fileBytes a version seal t) ≡ 6184
+  pub length-file-by : length (fileBytes a version seal t) ≡ fileLen
   unfolding fileBytes
   length-file-by =
       let l = length-table t (canonical .long) in
@@ -257,7 +258,7 @@ module _ (a : Aead) (grows : Grows a) (version seal : ℕ) (t : Table) (canonica
   file-legal : legalFile (fileBytes a version seal t) ≡ true
   file-legal =
       let s = fileBytes a version seal t in
-      file-bytes s length-file-by ∙ ap (λ (l : List ℕ). eqb (at l 0) 2 && eqb (at l 1) 0 && eqb (at l 2) 0 && eqb (at l 3) 0) (file-laid a version seal t)
+      file-bytes s length-file-by ∙ ap (λ (l : List ℕ). eqb (at l 0) fileKind && eqb (at l 1) 0 && eqb (at l 2) 0 && eqb (at l 3) 0) (file-laid a version seal t)
 
   file-unframed : Opens a → unframed a (fileNonce seal) (fileBytes a version seal t) ≡ some (tableText t)
   unfolding fileBytes
@@ -275,7 +276,7 @@ module _ (a : Aead) (grows : Grows a) (version seal : ℕ) (t : Table) (canonica
       ∙ ap (λ (b : Table). some (record { version = version; seal = seal; table = b })) (table-back t canonical)
 
 -- AES-128-GCM
-pub length-file : (key : List ℕ) (version seal : ℕ) (t : Table) → CanonicalTable t → length (fileBytes (aesGcm key) version seal t) ≡ 6184
+pub length-file : (key : List ℕ) (version seal : ℕ) (t : Table) → CanonicalTable t → length (fileBytes (aesGcm key) version seal t) ≡ fileLen
 length-file key = length-file-by (aesGcm key) (aes-grows key)
 
 pub file-opens : (key : List ℕ) (version seal : ℕ) (t : Table) → version < 2 ^ 64 → seal < 2 ^ 64 → CanonicalTable t

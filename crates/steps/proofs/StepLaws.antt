@@ -83,7 +83,7 @@ module _ (c : State) (next : Due) where
 
     module _ (good : c .vault .s < counterMax) where
       pub file-short : length o < fileLen
-          → (shownAs (refusedWith c (R.Length 6184)) (fileStep c (length o) next .put) ≡ fileStep c (length o) next) × (o ≡ putOver (fileStep c (length o) next .put) o)
+          → (shownAs (refusedWith c (R.Length fileLen)) (fileStep c (length o) next .put) ≡ fileStep c (length o) next) × (o ≡ putOver (fileStep c (length o) next .put) o)
       unfolding shownAs shown numberOf valuesOf fileStep refuse
       file-short h =
           let e = lt-leb counterMax (c .vault .s) good in
@@ -93,7 +93,7 @@ module _ (c : State) (next : Due) where
       -- d is the state behind it, and q the buffer
       pub file-taken : fileLen ≤ length o → length (c .table .entries) ≡ meters → (d : State) (q : List ℕ) → d ≡ withVault c (c .vault) next
           → q ≡ putOver (filePut (fileAnswer (length o)) (fileBytes (aesGcm (c .key)) (c .vault .s + 1) (c .vault .n) (c .table))) o
-          → (shownAs (takenWith d S.File 6184) (fileStep c (length o) next .put) ≡ fileStep c (length o) next) × (q ≡ putOver (fileStep c (length o) next .put) o)
+          → (shownAs (takenWith d S.File fileLen) (fileStep c (length o) next .put) ≡ fileStep c (length o) next) × (q ≡ putOver (fileStep c (length o) next .put) o)
       unfolding shownAs shown fileStep refuse tableFile fileAnswer filePut
       file-taken h long d q ed eq =
           let e = lt-leb counterMax (c .vault .s) good in

@@ -2,6 +2,7 @@
 use Rattle.journal.proofs.BeyondLaws.{held-fits, held-long}
 use Rattle.protocol.specs.Accept.{holding}
 use Rattle.octets.proofs.CopyLaws.{over-room}
+use Rattle.transaction.specs.Transaction.{maxText}
 use Prim.Native.Nat.{ℕ}
 use lib.ListN.{replicate}
 use mathlib.Core.Path.{sym, _∙_}
@@ -19,7 +20,7 @@ unfolding holding
 returns-2 c =
     let a = c .before .before .before .before .before .args in
     let room = c .before .before .before .if1 .left in
-    rw (held-fits (a .text .now) (a .lane) (a .position) room, c .before .copy .ensures, over-room (a .text .now) (replicate {A = ℕ} 136 0) room)
+    rw (held-fits (a .text .now) (a .lane) (a .position) room, c .before .copy .ensures, over-room (a .text .now) (replicate {A = ℕ} maxText 0) room)
 
 pub holding-spec : {M : Type 1} → statement M
 holding-spec = tie.close (tie.spec (λ c κs. search needs) returns (λ c. search needs) (λ c κs. search needs) returns-2)

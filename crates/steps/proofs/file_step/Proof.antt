@@ -2,6 +2,7 @@
 use mathlib.Core.Path.{_≡_, refl, ap, _∙_}
 use lib.ListN.{length}
 use borrow.Author.Needs.{needs}
+use Rattle.transaction.specs.Transaction.{meters}
 use Rattle.table.proofs.Arrays.{length-of-map}
 use Rattle.protocol.specs.Said.{shownAs}
 use Rattle.protocol.specs.declared.Answer.{Answer}
@@ -32,7 +33,7 @@ returns-3 c =
     let p = fileStep (a .c) (length (a .out .now)) (a .next) .put in
     -- what is known of the table among the parts of the state
     let g = i .before .before .before .before .good .0 .1 .1 .1 .1 .1 .0 in
-    let n : length (a .c .table .entries) ≡ 256 = search (length-of-map, g) in
+    let n : length (a .c .table .entries) ≡ meters = search (length-of-map, g) in
     let w = file-taken (a .c) (a .next) (a .out .now) (i .before .if1 .left) (i .if2 .left) n _ _ refl (t .ensures .1) in
     (ap (λ (y : Answer). shownAs y p) (c .stored .ensures) ∙ w .0, w .1)
 

@@ -1,12 +1,13 @@
+-- `test_sealed::sealed_enter_each` meets its contract. The invariant: the first k transactions are entered. The measure is what is left. Assumes nothing.
 use Rattle.test_sealed.specs.Boundary.{enteredTo, eachNumber, eachBuffer}
 use Rattle.table.specs.TableText.{tableText}
 use Rattle.table.specs.Table.{entered}
 use Rattle.table.specs.declared.Table.{Table}
 use Rattle.octets.specs.Lists.{over}
+use Rattle.transaction.specs.Transaction.{maxText}
 use lib.ListN.{length, take, drop}
 use borrow.Author.Tests.{not-true, not-false}
 use native.Mathlib.Numerals.{add-one}
--- `test_sealed::sealed_enter_each` meets its contract. The invariant: the first k transactions are entered. The measure is what is left. Assumes nothing.
 use borrow.Author.Needs.{needs}
 use native.Mathlib.Omega.{arith}
 use mathlib.Core.Path.{_≡_, refl, sym, ap, _∙_}
@@ -15,7 +16,7 @@ use Rattle.test_sealed.proofs.sealed_enter_each.Statement.{statement}
 use Rattle.test_sealed.proofs.sealed_enter_each.Tie as tie
 
 abbrev Inv-loop : tie.InvT-loop
-Inv-loop text s lane number t₀ n k₀ t k = (k ≤ n) × (n ≡ length s / 136) × (t ≡ enteredTo t₀ s lane number k)
+Inv-loop text s lane number t₀ n k₀ t k = (k ≤ n) × (n ≡ length s / maxText) × (t ≡ enteredTo t₀ s lane number k)
 
 abbrev μ-loop : tie.MeasureT-loop
 μ-loop text s lane number t₀ n k₀ t k = n - k
@@ -35,8 +36,8 @@ unfolding enteredTo
 loop-again c =
     let l = c .before .before .before .loop in
     let a = c .before .before .before .before .before .before .before .before .before .before .before .args in
-    let w : 136 * l .k + 136 - 136 * l .k ≡ 136 = omega arith in
-    (omega arith, l .inv .1, c .enter .ensures ∙ ap (λ (i : ℕ). entered (l .t) (take i (drop (136 * l .k) (a .s .now))) (a .lane) (a .number)) w ∙ ap (λ (t : Table). entered t (take 136 (drop (136 * l .k) (a .s .now))) (a .lane) (a .number)) (l .inv .2) ∙ ap (λ (i : ℕ). enteredTo (c .before .before .before .before .before .before .before .table-in .result .table) (a .s .now) (a .lane) (a .number) i) (sym (add-one (l .k))))
+    let w : maxText * l .k + maxText - maxText * l .k ≡ maxText = omega arith in
+    (omega arith, l .inv .1, c .enter .ensures ∙ ap (λ (i : ℕ). entered (l .t) (take i (drop (maxText * l .k) (a .s .now))) (a .lane) (a .number)) w ∙ ap (λ (t : Table). entered t (take maxText (drop (maxText * l .k) (a .s .now))) (a .lane) (a .number)) (l .inv .2) ∙ ap (λ (i : ℕ). enteredTo (c .before .before .before .before .before .before .before .table-in .result .table) (a .s .now) (a .lane) (a .number) i) (sym (add-one (l .k))))
 
 returns-2 : tie.Need-returns-2 Inv-loop μ-loop
 unfolding eachNumber eachBuffer
@@ -44,8 +45,8 @@ returns-2 c =
     let l = c .before .before .before .before .before .loop in
     let a = c .before .before .before .before .before .before .before .before .before .before .before .before .before .args in
     let e = sym (c .before .before .before .before .before .before .before .before .before .table-in .ensures .0) ∙ not-false _ (c .before .before .before .before .before .before .before .if1 .left) in
-    let k : l .k ≡ length (a .s .now) / 136 = omega arith in
-    let t = l .inv .2 ∙ ap (λ (i : ℕ). enteredTo (c .before .before .before .before .before .before .before .before .before .table-in .result .table) (a .s .now) (a .lane) (a .number) i) k ∙ ap (λ (t : Table). enteredTo t (a .s .now) (a .lane) (a .number) (length (a .s .now) / 136)) (c .before .before .before .before .before .before .before .before .before .table-in .ensures .1) in
+    let k : l .k ≡ length (a .s .now) / maxText = omega arith in
+    let t = l .inv .2 ∙ ap (λ (i : ℕ). enteredTo (c .before .before .before .before .before .before .before .before .before .table-in .result .table) (a .s .now) (a .lane) (a .number) i) k ∙ ap (λ (t : Table). enteredTo t (a .s .now) (a .lane) (a .number) (length (a .s .now) / maxText)) (c .before .before .before .before .before .before .before .before .before .table-in .ensures .1) in
     (rw e, rw e (c .before .before .put-text .ensures ∙ ap (λ (t : Table). over (tableText t) (a .text .now)) t))
 
 pub sealed-enter-each-spec : {M : Type 1} → statement M

@@ -1,6 +1,8 @@
 -- `journal::marks::counts_at` meets its contract. The invariant: the records from i on that stand at or above the position are taken off. The measure is the records left. Assumes nothing.
+use Rattle.table.specs.Table.{lanes}
 use Rattle.journal.proofs.WalkLaws.{count-start, count-in, count-out}
 use Rattle.protocol.specs.Point.{marksOf, marksFrom, countsAt}
+use Rattle.protocol.specs.States.{listed}
 use lib.ListN.{length, drop}
 use borrow.Author.Needs.{needs}
 use native.Mathlib.Omega.{arith}
@@ -10,7 +12,7 @@ use Rattle.journal.proofs.marks.counts_at.Statement.{statement}
 use Rattle.journal.proofs.marks.counts_at.Tie as tie
 
 abbrev Inv-loop : tie.InvT-loop
-Inv-loop position j left₀ i₀ left i = (i ≤ 128) × (i ≤ length (marksOf j)) × (left ≡ countsAt left₀ (marksFrom position (drop i (marksOf j))))
+Inv-loop position j left₀ i₀ left i = (i ≤ listed) × (i ≤ length (marksOf j)) × (left ≡ countsAt left₀ (marksFrom position (drop i (marksOf j))))
 
 abbrev μ-loop : tie.MeasureT-loop
 μ-loop position j left₀ i₀ left i = i
@@ -19,7 +21,7 @@ loop-holds : tie.Need-loop-holds Inv-loop μ-loop
 loop-holds c =
     let a = c .before .before .args in
     let e = c .listed-in .ensures in
-    let long : length (a .x .w) ≡ 8 = search needs in
+    let long : length (a .x .w) ≡ lanes = search needs in
     (e .1, omega arith, count-start (a .x .w) (a .position) (a .t2) long (e .0))
 
 loop-again : tie.Need-loop-again Inv-loop μ-loop

@@ -1,6 +1,8 @@
 -- `journal::marks::journal_from` meets its contract. The invariant: of the records before place i those at or above the position are put. The measure is the records left. Assumes nothing.
+use Rattle.table.specs.Table.{lanes}
 use Rattle.journal.proofs.LaidLaws.{Laid, laid-none, laid-in, laid-out, laid-all}
 use Rattle.protocol.specs.Point.{marksOf, marksFrom}
+use Rattle.protocol.specs.States.{listed}
 use mathlib.Core.Logic.{⊎-elim}
 use lib.ListN.{length, take, length-set}
 use borrow.Author.Needs.{needs}
@@ -12,7 +14,7 @@ use Rattle.journal.proofs.marks.journal_from.Tie as tie
 
 abbrev Inv-loop : tie.InvT-loop
 Inv-loop position j n positions₀ lanes₀ count₀ i₀ positions lanes count i =
-    (i ≤ n) × (count ≤ i) × (length positions ≡ 128) × (length lanes ≡ 128) × Laid (marksFrom position (take i (marksOf j))) positions lanes count
+    (i ≤ n) × (count ≤ i) × (length positions ≡ listed) × (length lanes ≡ listed) × Laid (marksFrom position (take i (marksOf j))) positions lanes count
 
 abbrev μ-loop : tie.MeasureT-loop
 μ-loop position j n positions₀ lanes₀ count₀ i₀ positions lanes count i = n - i

@@ -1,6 +1,7 @@
 -- `journal::marks::listed_in` meets its contract: the arrays have 128 places. Assumes nothing.
 use Rattle.protocol.proofs.Listed.{upto-length}
 use Rattle.protocol.specs.Point.{marksOf}
+use Rattle.protocol.specs.States.{listed}
 use Rattle.journal.proofs.MarkLaws.{marks-all}
 use borrow.Author.Needs.{needs}
 use lib.ListN.{length}
@@ -13,16 +14,16 @@ returns : tie.Need-returns
 unfolding marksOf
 returns c =
     let j = c .before .args .j in
-    let a : length (j .positions) ≡ 128 = search needs in
-    let b : length (j .lanes) ≡ 128 = search needs in
+    let a : length (j .positions) ≡ listed = search needs in
+    let b : length (j .lanes) ≡ listed = search needs in
     (sym (upto-length (j .count) (j .positions) (j .lanes) (omega arith) (omega arith)), omega arith)
 
 returns-2 : tie.Need-returns-2
 unfolding marksOf
 returns-2 c =
     let j = c .before .args .j in
-    let a : length (j .positions) ≡ 128 = search needs in
-    let b : length (j .lanes) ≡ 128 = search needs in
+    let a : length (j .positions) ≡ listed = search needs in
+    let b : length (j .lanes) ≡ listed = search needs in
     let e = marks-all (j .count) (j .positions) (j .lanes) (omega arith) (omega arith) in
     (omega arith, omega arith)
 

@@ -1,6 +1,8 @@
 -- `journal::marks::unseen_below` meets its contract. The invariant: W less the records from i on, and whether one of these is below the position and not visible. The measure is the records left. Assumes nothing.
+use Rattle.table.specs.Table.{lanes}
 use Rattle.journal.proofs.WalkLaws.{unseen-start, unseen-step}
 use Rattle.protocol.specs.Point.{marksOf, unseenBelow, countsAt}
+use Rattle.protocol.specs.States.{listed}
 use lib.ListN.{length, drop}
 use borrow.Author.Needs.{needs}
 use native.Mathlib.Omega.{arith}
@@ -11,7 +13,7 @@ use Rattle.journal.proofs.marks.unseen_below.Tie as tie
 
 abbrev Inv-loop : tie.InvT-loop
 Inv-loop position j v left₀ unseen₀ i₀ left unseen i =
-    (i ≤ 128) × (i ≤ length (marksOf j)) × (length left₀ ≡ 8) × (left ≡ countsAt left₀ (drop i (marksOf j))) × (unseen ≡ unseenBelow position left₀ v (drop i (marksOf j)))
+    (i ≤ listed) × (i ≤ length (marksOf j)) × (length left₀ ≡ lanes) × (left ≡ countsAt left₀ (drop i (marksOf j))) × (unseen ≡ unseenBelow position left₀ v (drop i (marksOf j)))
 
 abbrev μ-loop : tie.MeasureT-loop
 μ-loop position j v left₀ unseen₀ i₀ left unseen i = i
@@ -20,7 +22,7 @@ loop-holds : tie.Need-loop-holds Inv-loop μ-loop
 loop-holds c =
     let a = c .before .before .before .args in
     let e = c .listed-in .ensures in
-    let long : length (a .x .w) ≡ 8 = search needs in
+    let long : length (a .x .w) ≡ lanes = search needs in
     let s = unseen-start (a .x .w) (a .x .v) (a .position) (a .t1) long (e .0) in
     (e .1, omega arith, long, s .0, s .1)
 

@@ -2,6 +2,7 @@
 use Rattle.journal.proofs.PointLaws.{Kept, kept-none, kept-in, kept-out, kept-all}
 use Rattle.protocol.specs.Truncate.{pointsAbove}
 use Rattle.table.proofs.Arrays.{length-of-map}
+use Rattle.protocol.specs.States.{pointsMax}
 use lib.ListN.{length, take, length-set}
 use mathlib.Core.Logic.{⊎-elim}
 use borrow.Author.Needs.{needs}
@@ -13,7 +14,7 @@ use Rattle.journal.proofs.points.dropped_to.Tie as tie
 
 abbrev Inv-loop : tie.InvT-loop
 Inv-loop p position n old items₀ count₀ i₀ items count i =
-    (i ≤ n) × (count ≤ i) × (n ≤ 8) × (length old ≡ 8) × (length items ≡ 8) × Kept (pointsAbove position (take i (take n old))) items count
+    (i ≤ n) × (count ≤ i) × (n ≤ pointsMax) × (length old ≡ pointsMax) × (length items ≡ pointsMax) × Kept (pointsAbove position (take i (take n old))) items count
 
 abbrev μ-loop : tie.MeasureT-loop
 μ-loop p position n old items₀ count₀ i₀ items count i = n - i

@@ -3,6 +3,7 @@ use Rattle.journal.proofs.PointLaws.{find-here, find-on, find-none, fin
 use Rattle.journal.specs.Beyond.{shownPoint}
 use Rattle.protocol.specs.Truncate.{findPoint}
 use Rattle.table.proofs.Arrays.{length-of-map}
+use Rattle.protocol.specs.States.{pointsMax}
 use lib.ListN.{length, take, drop}
 use lib.Seq.{length-take-le}
 use borrow.Author.Needs.{needs}
@@ -13,7 +14,7 @@ use Rattle.journal.proofs.points.find_point.Statement.{statement}
 use Rattle.journal.proofs.points.find_point.Tie as tie
 
 abbrev Inv-loop : tie.InvT-loop
-Inv-loop position n items i₀ i = (i ≤ n) × (n ≤ 8) × (length items ≡ 8) × (findPoint position (take n items) ≡ findPoint position (drop i (take n items)))
+Inv-loop position n items i₀ i = (i ≤ n) × (n ≤ pointsMax) × (length items ≡ pointsMax) × (findPoint position (take n items) ≡ findPoint position (drop i (take n items)))
 
 abbrev μ-loop : tie.MeasureT-loop
 μ-loop position n items i₀ i = n - i

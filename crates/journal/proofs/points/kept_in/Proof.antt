@@ -1,6 +1,7 @@
 -- `journal::points::kept_in` meets its contract: the array has 8 places. Assumes nothing.
 use Rattle.protocol.specs.Truncate.{pointsOf}
 use Rattle.table.proofs.Arrays.{length-of-map}
+use Rattle.protocol.specs.States.{pointsMax}
 use borrow.Author.Needs.{needs}
 use lib.ListN.{length}
 use lib.Seq.{length-take-le, take-all}
@@ -13,14 +14,14 @@ returns : tie.Need-returns
 unfolding pointsOf
 returns c =
     let p = c .before .args .p in
-    let long : length (p .items) ≡ 8 = search (needs, length-of-map) in
+    let long : length (p .items) ≡ pointsMax = search (needs, length-of-map) in
     (sym (length-take-le (p .count) (p .items) (omega arith)), omega arith)
 
 returns-2 : tie.Need-returns-2
 unfolding pointsOf
 returns-2 c =
     let p = c .before .args .p in
-    let long : length (p .items) ≡ 8 = search (needs, length-of-map) in
+    let long : length (p .items) ≡ pointsMax = search (needs, length-of-map) in
     (sym (ap length (take-all (p .count) (p .items) (omega arith)) ∙ long), omega arith)
 
 pub kept-in-spec : {M : Type 1} → statement M

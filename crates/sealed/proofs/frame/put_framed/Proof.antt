@@ -2,9 +2,9 @@
 use Rattle.gcm.proofs.SealLaws.{length-sealed}
 use mathlib.Core.Path.{ap₂}
 use Rattle.sealed.proofs.FrameLaws.{put-parts, sealed-front}
-use Rattle.sealed.specs.Frame.{framed}
+use Rattle.sealed.specs.Frame.{headLen, trailerLen, frameLen, framed}
 use Rattle.sealed.specs.Aead.{gcmBy}
-use Rattle.gcm.specs.Gcm.{sealed}
+use Rattle.gcm.specs.Gcm.{tagLen, sealed}
 use Rattle.ghash.specs.Multiples.{productBy}
 use Rattle.aes.proofs.CounterLaws.{cipher-length}
 use Rattle.aes.specs.Cipher.{cipher}
@@ -29,7 +29,7 @@ slice-aggregate-seal-with c = search needs
 slice-aggregate-copy-2 : tie.Need-slice-aggregate-copy-2
 slice-aggregate-copy-2 c =
     let b = c .before .before .before .before .before .before .before .before .before .seal-with .last in
-    sym (length-take-le (c .before .before .before .before .before .before .before .before .before .before .before .before .before .before .args .n + 16) _ (search needs))
+    sym (length-take-le (c .before .before .before .before .before .before .before .before .before .before .before .before .before .before .args .n + tagLen) _ (search needs))
 
 returns : tie.Need-returns
 unfolding framed gcmBy
@@ -41,26 +41,26 @@ returns c =
     let dot = productBy (a .m .now) in
     let o1 = c .before .before .before .before .before .before .before .before .before .before .before .before .copy .last .1 .0 in
     let y = c .before .before .before .before .before .before .before .copy2 .last .1 .0 in
-    let o2 = putMid 20 (length o1 - 20) o1 y in
+    let o2 = putMid headLen (length o1 - headLen) o1 y in
     let z = c .before .before .copy3 .last .1 .0 in
-    let f = 20 + (n + 16) in
+    let f = headLen + (n + tagLen) in
     let lb : length (take n body) ≡ n = length-take-le n body (omega arith) in
     let sealing = c .before .before .before .before .before .before .before .before .before .before .before .before .before .before .before .before .before .before .seal-with in
-    let inner = take (n + 16) (sealing .last .1 .1 .1 .1 .0) in
+    let inner = take (n + tagLen) (sealing .last .1 .1 .1 .1 .0) in
     let whole : (b : List ℕ) → 16 ≤ length (ciph b) = λ b. le-of-eq (sym (cipher-length (a .w .now) b)) in
-    let lh : length (a .t4) ≡ 20 = sym (slice-aggregate-seal-with (c .before .before .before .before .before .before .before .before .before .before .before .before .before .before .before .before .before .before .before .before)) in
+    let lh : length (a .t4) ≡ headLen = sym (slice-aggregate-seal-with (c .before .before .before .before .before .before .before .before .before .before .before .before .before .before .before .before .before .before .before .before)) in
     let ex : inner ≡ sealed ciph dot (a .nonce) (a .t4) (take n body) =
-    ap (take (n + 16)) (sealing .ensures .1) ∙ sealed-front ciph whole dot (a .nonce) (a .t4) body n lh (c .before .before .before .before .before .before .before .before .before .before .before .before .before .before .before .before .before .before .before .before .before .before .before .pre .0) (c .before .before .before .before .before .before .before .before .before .before .before .before .before .before .before .before .before .before .before .before .before .before .before .pre .1)
+    ap (take (n + tagLen)) (sealing .ensures .1) ∙ sealed-front ciph whole dot (a .nonce) (a .t4) body n lh (c .before .before .before .before .before .before .before .before .before .before .before .before .before .before .before .before .before .before .before .before .before .before .before .pre .0) (c .before .before .before .before .before .before .before .before .before .before .before .before .before .before .before .before .before .before .before .before .before .before .before .pre .1)
     in
-    let lx : length inner ≡ n + 16 = ap length ex ∙ length-sealed ciph whole dot (a .nonce) (a .t4) (take n body) ∙ ap (λ (i : ℕ). i + 16) lb in
+    let lx : length inner ≡ n + tagLen = ap length ex ∙ length-sealed ciph whole dot (a .nonce) (a .t4) (take n body) ∙ ap (λ (i : ℕ). i + tagLen) lb in
     let t = c .before .before .before .before .before .before .before .before .before .before .before .before .before .before .before .bytes4 .result in
-    let et : t ≡ littleBytes 4 (length (take n body) + 40) = c .before .before .before .before .before .before .before .before .before .before .before .before .before .before .before .bytes4 .ensures ∙ ap (λ (i : ℕ). littleBytes 4 (i + 40)) (sym lb) in
-    let lt : length t ≡ 4 = search needs in
+    let et : t ≡ littleBytes trailerLen (length (take n body) + frameLen) = c .before .before .before .before .before .before .before .before .before .before .before .before .before .before .before .bytes4 .ensures ∙ ap (λ (i : ℕ). littleBytes trailerLen (i + frameLen)) (sym lb) in
+    let lt : length t ≡ trailerLen = search needs in
     let l1 : length o1 ≡ length (a .out .now) = c .before .before .before .before .before .before .before .before .before .before .before .before .copy .kept .1 .0 in
-    let e2 : o2 ≡ take 20 o1 ++ y = put-rest 20 o1 y (omega arith) in
+    let e2 : o2 ≡ take headLen o1 ++ y = put-rest headLen o1 y (omega arith) in
     put-rest f o2 z (search needs)
-    ∙ put-parts (a .out .now) o1 o2 (a .t4) inner t y z (n + 16) f lh lx lt refl (omega arith) (c .before .before .before .before .before .before .before .before .before .before .before .before .copy .ensures)
-    (c .before .before .before .before .before .before .before .copy2 .ensures ∙ ap (over inner) (mid-rest 20 o1)) e2 (c .before .before .copy3 .ensures ∙ ap (over t) (mid-rest f o2))
+    ∙ put-parts (a .out .now) o1 o2 (a .t4) inner t y z (n + tagLen) f lh lx lt refl (omega arith) (c .before .before .before .before .before .before .before .before .before .before .before .before .copy .ensures)
+    (c .before .before .before .before .before .before .before .copy2 .ensures ∙ ap (over inner) (mid-rest headLen o1)) e2 (c .before .before .copy3 .ensures ∙ ap (over t) (mid-rest f o2))
     ∙ ap₂ (λ (u v : List ℕ). putOver (a .t4 ++ (u ++ v)) (a .out .now)) ex et
 
 pub put-framed-spec : {M : Type 1} → statement M

@@ -1,7 +1,7 @@
 -- `sealed::frame::unframe` meets its contract: the trailer is compared, and the rest is opened under the head. Assumes nothing.
 use Rattle.octets.specs.Lists.{putOver}
 use Rattle.sealed.proofs.FrameLaws.{unframe-not, unframe-opens}
-use Rattle.sealed.specs.Frame.{trailerOf, isSome}
+use Rattle.sealed.specs.Frame.{trailerLen, trailerOf, isSome}
 use Rattle.gcm.specs.Answers.{textPut}
 use Rattle.ghash.specs.Multiples.{productBy}
 use Rattle.aes.proofs.CounterLaws.{cipher-length}
@@ -26,7 +26,7 @@ unfolding trailerOf textPut
 returns c =
     let a = c .before .before .before .before .before .args in
     let s = a .s .now in
-    let t = c .before .u32-in .ensures .0 ∙ ap (λ (l : List ℕ). little (padded 4 l)) (mid-rest (length s - 4) s) in
+    let t = c .before .u32-in .ensures .0 ∙ ap (λ (l : List ℕ). little (padded trailerLen l)) (mid-rest (length s - trailerLen) s) in
     let e = unframe-not (cipher (a .w .now)) (λ b. le-of-eq (sym (cipher-length (a .w .now) b))) (productBy (a .m .now)) (a .nonce) s (c .before .before .before .before .before .pre .0) _ t (c .if1 .taken) in
     (sym (ap isSome e), sym (ap (λ (p : Option (List ℕ)). putOver (textPut p) (a .out .now)) e))
 
@@ -38,7 +38,7 @@ unfolding trailerOf
 returns-2 c =
     let a = c .before .before .before .before .before .before .before .before .before .before .before .before .args in
     let s = a .s .now in
-    let t = c .before .before .before .before .before .before .before .before .u32-in .ensures .0 ∙ ap (λ (l : List ℕ). little (padded 4 l)) (mid-rest (length s - 4) s) in
+    let t = c .before .before .before .before .before .before .before .before .u32-in .ensures .0 ∙ ap (λ (l : List ℕ). little (padded trailerLen l)) (mid-rest (length s - trailerLen) s) in
     unframe-opens (cipher (a .w .now)) (λ b. le-of-eq (sym (cipher-length (a .w .now) b))) (productBy (a .m .now)) (a .nonce) s (c .before .before .before .before .before .before .before .before .before .before .before .before .pre .0) _ (a .out .now) _ _ _ t (c .before .before .before .before .before .before .before .if1 .left) (c .before .before .before .before .before .before .before .before .before .before .before .before .pre .1) (c .before .before .before .before .before .before .before .before .before .before .before .before .pre .2)
     (c .before .before .before .open-with .ensures .0) (c .is-text .ensures) (c .before .before .before .open-with .ensures .1)
 
