@@ -10,6 +10,7 @@ use mathlib.Core.Option.{Option, some, none}
 use lib.Dec.{leb, ltb, eqb}
 use lib.ListN.{length}
 use Rattle.octets.specs.Lists.{at}
+use Rattle.transaction.specs.Edition.{present}
 use Rattle.transaction.specs.Every.{allBelow}
 use Rattle.table.specs.declared.Table.{Table}
 use Rattle.table.specs.Table.{lanes, emptyTable}
@@ -34,7 +35,7 @@ use Rattle.protocol.specs.declared.Step.{Step}
 use Rattle.protocol.specs.declared.Store.the-variants as S
 
 abbrev pub logMax : ℕ
-logMax = 262144
+logMax = present .logMax
 
 -- "A spent counter at recovery is S or N above 2^48 − 3, or E at 2^48 − 1."
 unfoldable pub spent : Vault → Bool

@@ -11,6 +11,7 @@ use lib.ListN.{length, drop}
 use Rattle.octets.specs.Lists.{at}
 use Rattle.octets.specs.Bytes.{padded}
 use Rattle.octets.specs.Little.{little, littleBytes}
+use Rattle.transaction.specs.Edition.{present}
 use Rattle.table.specs.declared.Table.{Table}
 use Rattle.table.specs.Table.{emptyTable}
 use Rattle.table.specs.TableText.{tableLen, tableText, isTable, tableFrom}
@@ -23,7 +24,7 @@ use Rattle.sealed.specs.declared.file.FilePut.{FilePut}
 use Rattle.sealed.specs.declared.file.FilePut.the-variants as P
 
 abbrev pub fileKind : ℕ
-fileKind = 2
+fileKind = present .fileKind
 
 abbrev pub fileLen : ℕ
 fileLen = tableLen + frameLen
