@@ -32,7 +32,7 @@ use Rattle.table.specs.Canonical.{CanonicalTable}
 use Rattle.table.specs.TableText.{tableLen, tableText, isTable, tableFrom}
 use Rattle.table.proofs.TextLaws.{length-table}
 use Rattle.table.proofs.RoundTrip.{text-is-table, table-back}
-use Rattle.sealed.specs.Aead.{Aead, aesGcm, gcmBy}
+use Rattle.sealed.specs.Aead.{Aead, aesGcm, gcmBy, preparedBy}
 use Rattle.sealed.specs.Frame.{headLen, trailerLen, frameLen, framed, unframed, trailerOf, isSome}
 use Rattle.sealed.specs.Checkpoint.{fileLen, fileKind, fileHead, fileNonce, fileBytes, fileAnswer, filePut, versionOf, sealOf, legalFile, openedTable, openFile, shownFile}
 use Rattle.sealed.specs.declared.file.FileHead.the-variants as H
@@ -121,14 +121,15 @@ none-of : (u : Option (List ℕ)) → isSome u ≡ false → u ≡ none
 none-of (some p) e = let z : _≡_ {A = ℕ} 0 1 = cc in absurd (omega arith)
 none-of none e = refl
 
-module _ (ciph : List ℕ → List ℕ) (whole : (b : List ℕ) → 16 ≤ length (ciph b)) (dot : ℕ → ℕ) where
-  opened-length : (iv a c t p : List ℕ) → opened ciph dot iv a c t ≡ some p → length p ≡ length c
+module _ (w m : List ℕ) where
+  opened-length : (iv a c t p : List ℕ) → opened (cipher w) (productBy m) iv a c t ≡ some p → length p ≡ length c
   unfolding opened
   opened-length iv a c t p e =
-      sym (ap length (only-some (sameBytes t (tagOf ciph dot iv a c)) (cipherText ciph iv c) p e)) ∙ length-cipher-text ciph whole dot iv c
+      sym (ap length (only-some (sameBytes t (tagOf (cipher w) (productBy m) iv a c)) (cipherText (cipher w) iv c) p e))
+      ∙ length-cipher-text (cipher w) (λ b. le-of-eq (sym (cipher-length w b))) (productBy m) iv c
 
   -- a text that comes out of a frame is shorter by what the frame adds
-  pub unframed-length : (nonce s p : List ℕ) → unframed (gcmBy ciph dot) nonce s ≡ some p → length p ≡ length s - frameLen
+  pub unframed-length : (nonce s p : List ℕ) → unframed (preparedBy w m) nonce s ≡ some p → length p ≡ length s - frameLen
   unfolding unframed gcmBy
   unframed-length nonce s p e =
       let c = take (length s - frameLen) (drop headLen s) in
@@ -137,10 +138,10 @@ module _ (ciph : List ℕ → List ℕ) (whole : (b : List ℕ) → 16 ≤ lengt
       opened-length nonce (take headLen s) c (take tagLen (drop (length s - frameLen) (drop headLen s))) p o ∙ lc
 
   -- what stands in a buffer of a table's length is all of the text
-  pub text-got : (nonce s z t : List ℕ) → length s ≡ fileLen → length z ≡ tableLen → isSome (unframed (gcmBy ciph dot) nonce s) ≡ true
-      → t ≡ putOver (textPut (unframed (gcmBy ciph dot) nonce s)) z → unframed (gcmBy ciph dot) nonce s ≡ some t
+  pub text-got : (nonce s z t : List ℕ) → length s ≡ fileLen → length z ≡ tableLen → isSome (unframed (preparedBy w m) nonce s) ≡ true
+      → t ≡ putOver (textPut (unframed (preparedBy w m) nonce s)) z → unframed (preparedBy w m) nonce s ≡ some t
   text-got nonce s z t ls lz q e =
-      let u = unframed (gcmBy ciph dot) nonce s in
+      let u = unframed (preparedBy w m) nonce s in
       let p = textPut u in
       let is-p : u ≡ some p = text-of u q in
       let lp = unframed-length nonce s p is-p in
@@ -171,8 +172,8 @@ module _ (a : Aead) (s : List ℕ) where
 
 -- as the code reads
 module _ (w m s : List ℕ) {r : Bool} (er : r ≡ legalFile s) where
-  pub read-illegal : not r ≡ true → shownFile none ≡ shownFile (openFile (gcmBy (cipher w) (productBy m)) s)
-  read-illegal h = ap shownFile (sym (open-illegal (gcmBy (cipher w) (productBy m)) s (sym er ∙ not-true r h)))
+  pub read-illegal : not r ≡ true → shownFile none ≡ shownFile (openFile (preparedBy w m) s)
+  read-illegal h = ap shownFile (sym (open-illegal (preparedBy w m) s (sym er ∙ not-true r h)))
 
   module _ (hr : not r ≡ false) where
     is-legal : legalFile s ≡ true
@@ -182,7 +183,7 @@ module _ (w m s : List ℕ) {r : Bool} (er : r ≡ legalFile s) where
     read-length = legal-length s is-legal
 
     module _ {n : ℕ} (es : n ≡ little (padded 8 (midOf 12 (length s - 12) s))) {nonce : List ℕ} (en : nonce ≡ fileNonce n)
-        {q : Bool} (eq : q ≡ isSome (unframed (gcmBy (cipher w) (productBy m)) nonce s)) where
+        {q : Bool} (eq : q ≡ isSome (unframed (preparedBy w m) nonce s)) where
       seal-is : n ≡ sealOf s
       unfolding sealOf
       seal-is = es ∙ ap (λ (l : List ℕ). little (padded 8 l)) (mid-rest 12 s)
@@ -190,30 +191,30 @@ module _ (w m s : List ℕ) {r : Bool} (er : r ≡ legalFile s) where
       nonce-is : nonce ≡ fileNonce (sealOf s)
       nonce-is = en ∙ ap fileNonce seal-is
 
-      some-is : isSome (unframed (gcmBy (cipher w) (productBy m)) (fileNonce (sealOf s)) s) ≡ q
-      some-is = sym (eq ∙ ap (λ (l : List ℕ). isSome (unframed (gcmBy (cipher w) (productBy m)) l s)) nonce-is)
+      some-is : isSome (unframed (preparedBy w m) (fileNonce (sealOf s)) s) ≡ q
+      some-is = sym (eq ∙ ap (λ (l : List ℕ). isSome (unframed (preparedBy w m) l s)) nonce-is)
 
-      pub read-shut : not q ≡ true → shownFile none ≡ shownFile (openFile (gcmBy (cipher w) (productBy m)) s)
-      read-shut h = ap shownFile (sym (open-shut (gcmBy (cipher w) (productBy m)) s is-legal (some-is ∙ not-true q h)))
+      pub read-shut : not q ≡ true → shownFile none ≡ shownFile (openFile (preparedBy w m) s)
+      read-shut h = ap shownFile (sym (open-shut (preparedBy w m) s is-legal (some-is ∙ not-true q h)))
 
-      module _ (hq : not q ≡ false) (z : List ℕ) {t : List ℕ} (lz : length z ≡ tableLen) (et : t ≡ putOver (textPut (unframed (gcmBy (cipher w) (productBy m)) nonce s)) z)
+      module _ (hq : not q ≡ false) (z : List ℕ) {t : List ℕ} (lz : length z ≡ tableLen) (et : t ≡ putOver (textPut (unframed (preparedBy w m) nonce s)) z)
           {b : Bool} (eb : b ≡ isTable t) where
-        got : unframed (gcmBy (cipher w) (productBy m)) (fileNonce (sealOf s)) s ≡ some t
+        got : unframed (preparedBy w m) (fileNonce (sealOf s)) s ≡ some t
         got =
-            text-got (cipher w) (λ b. le-of-eq (sym (cipher-length w b))) (productBy m) (fileNonce (sealOf s)) s z t read-length lz (some-is ∙ not-false q hq)
-            (et ∙ ap (λ (l : List ℕ). putOver (textPut (unframed (gcmBy (cipher w) (productBy m)) l s)) z) nonce-is)
+            text-got w m (fileNonce (sealOf s)) s z t read-length lz (some-is ∙ not-false q hq)
+            (et ∙ ap (λ (l : List ℕ). putOver (textPut (unframed (preparedBy w m) l s)) z) nonce-is)
 
-        pub read-other : not b ≡ true → shownFile none ≡ shownFile (openFile (gcmBy (cipher w) (productBy m)) s)
-        read-other h = ap shownFile (sym (open-other (gcmBy (cipher w) (productBy m)) s t is-legal got (sym eb ∙ not-true b h)))
+        pub read-other : not b ≡ true → shownFile none ≡ shownFile (openFile (preparedBy w m) s)
+        read-other h = ap shownFile (sym (open-other (preparedBy w m) s t is-legal got (sym eb ∙ not-true b h)))
 
         pub read-opens : not b ≡ false → {v : ℕ} {x : Table} → v ≡ little (padded 8 (midOf 4 (length s - 4) s)) → x ≡ tableFrom t
-            → _≡_ {A = FileRead} (record { head = H.File v n; table = x }) (shownFile (openFile (gcmBy (cipher w) (productBy m)) s))
+            → _≡_ {A = FileRead} (record { head = H.File v n; table = x }) (shownFile (openFile (preparedBy w m) s))
         unfolding shownFile versionOf
         read-opens h {v} {x} ev ex =
             let f : Table → FileRead = λ y. record { head = H.File v n; table = y } in
             let g : ℕ → ℕ → FileRead = λ x y. record { head = H.File x y; table = tableFrom t } in
             ap f ex ∙ ap₂ g (ev ∙ ap (λ (l : List ℕ). little (padded 8 l)) (mid-rest 4 s)) seal-is
-            ∙ sym (ap shownFile (open-opens (gcmBy (cipher w) (productBy m)) s t is-legal got (sym eb ∙ not-false b h)))
+            ∙ sym (ap shownFile (open-opens (preparedBy w m) s t is-legal got (sym eb ∙ not-false b h)))
 
 -- ---- what was sealed opens
 
@@ -285,11 +286,11 @@ file-opens key version seal t hv hs canonical = file-opens-by (aesGcm key) (aes-
 
 -- ---- a prepared key
 
-pub prepared-file : (key s : List ℕ) → openFile (gcmBy (cipher (prepared key .schedule)) (productBy (prepared key .multiples))) s ≡ openFile (aesGcm key) s
+pub prepared-file : (key s : List ℕ) → openFile (preparedBy (prepared key .schedule) (prepared key .multiples)) s ≡ openFile (aesGcm key) s
 unfolding openFile
 prepared-file key s = ap (λ (p : Option (List ℕ)). cond (legalFile s) (openedTable s p) none) (prepared-unframed key (fileNonce (sealOf s)) s)
 
 pub prepared-file-bytes : (key : List ℕ) (version seal : ℕ) (t : Table)
-    → fileBytes (gcmBy (cipher (prepared key .schedule)) (productBy (prepared key .multiples))) version seal t ≡ fileBytes (aesGcm key) version seal t
+    → fileBytes (preparedBy (prepared key .schedule) (prepared key .multiples)) version seal t ≡ fileBytes (aesGcm key) version seal t
 unfolding fileBytes
 prepared-file-bytes key version seal t = prepared-framed key (fileNonce seal) (fileHead version seal) (tableText t)

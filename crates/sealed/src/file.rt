@@ -3,9 +3,7 @@ ghost use mathlib.Core.Path.{_≡_};
 ghost use mathlib.Core.Option.{none};
 ghost use lib.ListN.{length};
 ghost use Rattle.octets.specs.Lists.{putOver};
-ghost use Rattle.aes.specs.Cipher.{cipher};
-ghost use Rattle.ghash.specs.Multiples.{productBy};
-ghost use Rattle.sealed.specs.Aead.{gcmBy};
+ghost use Rattle.sealed.specs.Aead.{preparedBy};
 ghost use Rattle.sealed.specs.Checkpoint.{fileHead, fileBytes, fileAnswer, filePut, legalFile, openFile, shownFile};
 use super::frame;
 use super::frame::FRAME_LEN;
@@ -95,7 +93,7 @@ fn closed() -> FileRead
 
 // Opens all of s as a checkpoint file.
 pub fn open_file<'a>(w: &'a [u32; 44], m: &'a [u64; 1024], s: &[u8]) -> FileRead
-    ensures { λ r. ⌜ r ≡ shownFile (openFile (gcmBy (cipher (now (w .entry))) (productBy (now (m .entry)))) (now (s .entry))) ⌝ }
+    ensures { λ r. ⌜ r ≡ shownFile (openFile (preparedBy (now (w .entry)) (now (m .entry))) (now (s .entry))) ⌝ }
 {
     if !legal_file(s) {
         return closed();
@@ -127,7 +125,7 @@ pub fn seal_file<'a>(
     out: &mut [u8],
 ) -> FilePut
     ensures answer { λ r. ⌜ r ≡ fileAnswer (length (now (out .entry))) ⌝ }
-    ensures buffer { λ r. ⌜ now (out .exit) ≡ putOver (filePut (fileAnswer (length (now (out .entry)))) (fileBytes (gcmBy (cipher (now (w .entry))) (productBy (now (m .entry)))) version seal t)) (now (out .entry)) ⌝ }
+    ensures buffer { λ r. ⌜ now (out .exit) ≡ putOver (filePut (fileAnswer (length (now (out .entry)))) (fileBytes (preparedBy (now (w .entry)) (now (m .entry))) version seal t)) (now (out .entry)) ⌝ }
 {
     if out.len() < FILE_LEN {
         return FilePut::Short(FILE_LEN);

@@ -3,11 +3,9 @@ ghost use mathlib.Core.Path.{_≡_};
 ghost use Prim.Native.Nat.{_+_, _-_, _≤_};
 ghost use lib.ListN.{length, take};
 ghost use Rattle.octets.specs.Lists.{putOver};
-ghost use Rattle.aes.specs.Cipher.{cipher};
-ghost use Rattle.ghash.specs.Multiples.{productBy};
 ghost use Rattle.gcm.specs.Gcm.{tagLen};
 ghost use Rattle.gcm.specs.Answers.{textPut};
-ghost use Rattle.sealed.specs.Aead.{gcmBy};
+ghost use Rattle.sealed.specs.Aead.{preparedBy};
 ghost use Rattle.sealed.specs.Nonce.{nonceOf};
 ghost use Rattle.sealed.specs.Frame.{frameLen, framed, unframed, isSome, isText};
 use gcm::Opening;
@@ -62,8 +60,8 @@ pub fn unframe<'a>(
     out: &mut [u8],
 ) -> bool
     requires { ⌜ (frameLen ≤ length (now s)) × (length (now s) ≤ 65536) × (length (now s) - frameLen ≤ length (now out)) ⌝ }
-    ensures answer { λ r. ⌜ r ≡ isSome (unframed (gcmBy (cipher (now (w .entry))) (productBy (now (m .entry)))) nonce (now (s .entry))) ⌝ }
-    ensures buffer { λ r. ⌜ now (out .exit) ≡ putOver (textPut (unframed (gcmBy (cipher (now (w .entry))) (productBy (now (m .entry)))) nonce (now (s .entry)))) (now (out .entry)) ⌝ }
+    ensures answer { λ r. ⌜ r ≡ isSome (unframed (preparedBy (now (w .entry)) (now (m .entry))) nonce (now (s .entry))) ⌝ }
+    ensures buffer { λ r. ⌜ now (out .exit) ≡ putOver (textPut (unframed (preparedBy (now (w .entry)) (now (m .entry))) nonce (now (s .entry)))) (now (out .entry)) ⌝ }
 {
     let e = s.len() - TRAILER_LEN;
     let trailer = little::u32_in(&s[e..]);
@@ -84,7 +82,7 @@ pub fn put_framed<'a>(
     out: &mut [u8],
 )
     requires { ⌜ (n ≤ 65536) × (n + tagLen ≤ length (now body)) × (n + frameLen ≤ length (now out)) ⌝ }
-    ensures { λ _. ⌜ now (out .exit) ≡ putOver (framed (gcmBy (cipher (now (w .entry))) (productBy (now (m .entry)))) nonce head (take n (now (body .entry)))) (now (out .entry)) ⌝ }
+    ensures { λ _. ⌜ now (out .exit) ≡ putOver (framed (preparedBy (now (w .entry)) (now (m .entry))) nonce head (take n (now (body .entry)))) (now (out .entry)) ⌝ }
 {
     gcm::seal_with(w, m, nonce, &head, body, n);
     let e = n + gcm::TAG_LEN;

@@ -5,12 +5,10 @@ ghost use mathlib.Core.Path.{_≡_};
 ghost use mathlib.Core.Bool.{cond};
 ghost use lib.Dec.{eqb};
 ghost use lib.ListN.{length};
-ghost use Rattle.aes.specs.Cipher.{cipher};
-ghost use Rattle.ghash.specs.Multiples.{productBy};
 ghost use Rattle.gcm.specs.Key.{prepared};
 ghost use Rattle.octets.specs.Lists.{over, putOver};
 ghost use Rattle.table.specs.TableText.{tableText};
-ghost use Rattle.sealed.specs.Aead.{gcmBy};
+ghost use Rattle.sealed.specs.Aead.{preparedBy};
 ghost use Rattle.sealed.specs.Record.{recordAnswer, recordPut, recordBytes, openRecord, shownRecord};
 ghost use Rattle.sealed.specs.Log.{recordAt};
 ghost use Rattle.sealed.specs.Checkpoint.{openFile, shownFile};
@@ -136,7 +134,7 @@ pub extern "C" fn sealed_put_record<'a>(
     out: &mut [u8],
 ) -> u64
     ensures answer { λ r. ⌜ r ≡ recordCode (recordAnswer (now (text .entry)) lane (length (now (out .entry)))) ⌝ }
-    ensures buffer { λ r. ⌜ now (out .exit) ≡ putOver (recordPut (recordAnswer (now (text .entry)) lane (length (now (out .entry)))) (recordBytes (gcmBy (cipher (now (w .entry))) (productBy (now (m .entry)))) lane epoch number (now (text .entry)))) (now (out .entry)) ⌝ }
+    ensures buffer { λ r. ⌜ now (out .exit) ≡ putOver (recordPut (recordAnswer (now (text .entry)) lane (length (now (out .entry)))) (recordBytes (preparedBy (now (w .entry)) (now (m .entry))) lane epoch number (now (text .entry)))) (now (out .entry)) ⌝ }
 {
     record_code(record::seal_record(w, m, lane, epoch, number, text, out))
 }
@@ -149,8 +147,8 @@ pub extern "C" fn sealed_open_record<'a>(
     s: &[u8],
     text: &mut [u8],
 ) -> RecordReply
-    ensures answer { λ r. ⌜ r ≡ recordReply (shownRecord (openRecord (gcmBy (cipher (now (w .entry))) (productBy (now (m .entry)))) (now (s .entry))) .head) ⌝ }
-    ensures buffer { λ r. ⌜ now (text .exit) ≡ over (shownRecord (openRecord (gcmBy (cipher (now (w .entry))) (productBy (now (m .entry)))) (now (s .entry))) .text) (now (text .entry)) ⌝ }
+    ensures answer { λ r. ⌜ r ≡ recordReply (shownRecord (openRecord (preparedBy (now (w .entry)) (now (m .entry))) (now (s .entry))) .head) ⌝ }
+    ensures buffer { λ r. ⌜ now (text .exit) ≡ over (shownRecord (openRecord (preparedBy (now (w .entry)) (now (m .entry))) (now (s .entry))) .text) (now (text .entry)) ⌝ }
 {
     let read = record::open_record(w, m, s);
     let bytes = read.text;
@@ -168,8 +166,8 @@ pub extern "C" fn sealed_open_at<'a>(
     at: usize,
     text: &mut [u8],
 ) -> RecordReply
-    ensures answer { λ r. ⌜ r ≡ recordReply (shownRecord (recordAt (gcmBy (cipher (now (w .entry))) (productBy (now (m .entry)))) (now (log .entry)) at) .head) ⌝ }
-    ensures buffer { λ r. ⌜ now (text .exit) ≡ over (shownRecord (recordAt (gcmBy (cipher (now (w .entry))) (productBy (now (m .entry)))) (now (log .entry)) at) .text) (now (text .entry)) ⌝ }
+    ensures answer { λ r. ⌜ r ≡ recordReply (shownRecord (recordAt (preparedBy (now (w .entry)) (now (m .entry))) (now (log .entry)) at) .head) ⌝ }
+    ensures buffer { λ r. ⌜ now (text .exit) ≡ over (shownRecord (recordAt (preparedBy (now (w .entry)) (now (m .entry))) (now (log .entry)) at) .text) (now (text .entry)) ⌝ }
 {
     let read = record::open_at(w, m, log, at);
     let bytes = read.text;
@@ -189,7 +187,7 @@ pub extern "C" fn sealed_put_file<'a>(
     out: &mut [u8],
 ) -> u64
     ensures answer { λ r. ⌜ r ≡ putFileNumber (now (text .entry)) (now (out .entry)) ⌝ }
-    ensures buffer { λ r. ⌜ now (out .exit) ≡ putFileBuffer (gcmBy (cipher (now (w .entry))) (productBy (now (m .entry)))) version seal (now (text .entry)) (now (out .entry)) ⌝ }
+    ensures buffer { λ r. ⌜ now (out .exit) ≡ putFileBuffer (preparedBy (now (w .entry)) (now (m .entry))) version seal (now (text .entry)) (now (out .entry)) ⌝ }
 {
     let read = table::table_in(text);
     if !read.legal {
@@ -208,8 +206,8 @@ pub extern "C" fn sealed_open_file<'a>(
     s: &[u8],
     text: &mut [u8],
 ) -> FileReply
-    ensures answer { λ r. ⌜ r ≡ fileReply (shownFile (openFile (gcmBy (cipher (now (w .entry))) (productBy (now (m .entry)))) (now (s .entry))) .head) ⌝ }
-    ensures buffer { λ r. ⌜ now (text .exit) ≡ over (tableText (shownFile (openFile (gcmBy (cipher (now (w .entry))) (productBy (now (m .entry)))) (now (s .entry))) .table)) (now (text .entry)) ⌝ }
+    ensures answer { λ r. ⌜ r ≡ fileReply (shownFile (openFile (preparedBy (now (w .entry)) (now (m .entry))) (now (s .entry))) .head) ⌝ }
+    ensures buffer { λ r. ⌜ now (text .exit) ≡ over (tableText (shownFile (openFile (preparedBy (now (w .entry)) (now (m .entry))) (now (s .entry))) .table)) (now (text .entry)) ⌝ }
 {
     let read = file::open_file(w, m, s);
     let t = read.table;

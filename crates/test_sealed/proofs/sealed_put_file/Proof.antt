@@ -3,10 +3,8 @@ use borrow.Author.Tests.{not-true, not-false}
 use lib.ListN.{length}
 use Rattle.octets.specs.Lists.{putOver}
 use Rattle.table.specs.declared.Table.{Table}
-use Rattle.aes.specs.Cipher.{cipher}
-use Rattle.ghash.specs.Multiples.{productBy}
 use Rattle.sealed.specs.Checkpoint.{fileAnswer, filePut, fileBytes}
-use Rattle.sealed.specs.Aead.{gcmBy}
+use Rattle.sealed.specs.Aead.{preparedBy}
 use Rattle.test_sealed.specs.Boundary.{fileCode, putFileNumber, putFileBuffer}
 use borrow.Author.Needs.{needs}
 use mathlib.Core.Path.{sym, ap, _∙_}
@@ -26,7 +24,7 @@ returns-2 c =
     let e = sym (c .before .before .before .before .before .before .before .before .table-in .ensures .0) ∙ not-false _ (c .before .before .before .before .before .before .if1 .left) in
     let a = c .before .before .before .before .before .before .before .before .before .before .before .args in
     let f = c .before .before .before .seal-file .ensures in
-    (rw e (c .file-code .ensures ∙ ap fileCode (f .0)), rw e (f .1 ∙ ap (λ (t : Table). putOver (filePut (fileAnswer (length (a .out .now))) (fileBytes (gcmBy (cipher (a .w .now)) (productBy (a .m .now))) (a .version) (a .seal) t)) (a .out .now)) (c .before .before .before .before .before .before .before .before .table-in .ensures .1)))
+    (rw e (c .file-code .ensures ∙ ap fileCode (f .0)), rw e (f .1 ∙ ap (λ (t : Table). putOver (filePut (fileAnswer (length (a .out .now))) (fileBytes (preparedBy (a .w .now) (a .m .now)) (a .version) (a .seal) t)) (a .out .now)) (c .before .before .before .before .before .before .before .before .table-in .ensures .1)))
 
 pub sealed-put-file-spec : {M : Type 1} → statement M
 sealed-put-file-spec =

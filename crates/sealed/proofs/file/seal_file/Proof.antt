@@ -2,13 +2,11 @@
 use mathlib.Core.List.{List}
 use lib.ListN.{length, replicate, length-replicate}
 use Rattle.octets.specs.Lists.{putOver}
-use Rattle.aes.specs.Cipher.{cipher}
-use Rattle.ghash.specs.Multiples.{productBy}
 use Rattle.gcm.specs.Gcm.{tagLen}
 use Rattle.transaction.specs.Transaction.{meters}
 use Rattle.table.proofs.Arrays.{length-of-map}
 use Rattle.table.specs.TableText.{tableLen}
-use Rattle.sealed.specs.Aead.{gcmBy}
+use Rattle.sealed.specs.Aead.{preparedBy}
 use Rattle.sealed.proofs.FileLaws.{file-short, file-done, file-put}
 use borrow.Author.Needs.{needs}
 use mathlib.Core.Path.{_≡_, ap, _∙_}
@@ -24,7 +22,7 @@ returns-2 c =
     let a = c .before .before .before .before .before .before .before .before .before .before .before .before .before .args in
     let n : length (a .t .entries) ≡ meters = search (needs, length-of-map) in
     file-done (a .out .now) _ (c .before .before .before .before .before .before .before .before .before .before .before .if1 .left)
-    (c .before .before .before .put-framed .ensures ∙ ap (λ (f : List ℕ). putOver f (a .out .now)) (file-put (gcmBy (cipher (a .w .now)) (productBy (a .m .now))) (a .version) (a .seal) (a .t) (replicate {A = ℕ} (tableLen + tagLen) 0) n (length-replicate {A = ℕ} (tableLen + tagLen) 0) (c .before .before .before .before .before .before .before .nonce-of .ensures) (c .before .before .before .before .before .before .head-of .ensures) (c .before .before .before .before .before .before .before .before .before .put-text .ensures)))
+    (c .before .before .before .put-framed .ensures ∙ ap (λ (f : List ℕ). putOver f (a .out .now)) (file-put (preparedBy (a .w .now) (a .m .now)) (a .version) (a .seal) (a .t) (replicate {A = ℕ} (tableLen + tagLen) 0) n (length-replicate {A = ℕ} (tableLen + tagLen) 0) (c .before .before .before .before .before .before .before .nonce-of .ensures) (c .before .before .before .before .before .before .head-of .ensures) (c .before .before .before .before .before .before .before .before .before .put-text .ensures)))
 
 pub seal-file-spec : {M : Type 1} → statement M
 seal-file-spec =

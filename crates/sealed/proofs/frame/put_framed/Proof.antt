@@ -1,12 +1,10 @@
 -- `sealed::frame::put_framed` meets its contract: head, sealed text and trailer are put one behind the other. Assumes nothing.
-use Rattle.gcm.proofs.SealLaws.{length-sealed}
 use mathlib.Core.Path.{ap₂}
-use Rattle.sealed.proofs.FrameLaws.{put-parts, sealed-front}
+use Rattle.sealed.proofs.FrameLaws.{put-parts, sealed-length, sealed-front}
 use Rattle.sealed.specs.Frame.{headLen, trailerLen, frameLen, framed}
 use Rattle.sealed.specs.Aead.{gcmBy}
 use Rattle.gcm.specs.Gcm.{tagLen, sealed}
 use Rattle.ghash.specs.Multiples.{productBy}
-use Rattle.aes.proofs.CounterLaws.{cipher-length}
 use Rattle.aes.specs.Cipher.{cipher}
 use Rattle.octets.proofs.PartLaws.{mid-rest, put-rest}
 use Rattle.octets.specs.Little.{littleBytes}
@@ -14,12 +12,11 @@ use Rattle.octets.specs.Lists.{over, putOver}
 use borrow.Rule.Slice.PartMut.{putMid}
 use lib.Seq.{length-take-le}
 use lib.ListN.{length, take}
-use native.Mathlib.Nat.{le-of-eq}
 use mathlib.Core.List.{List, _++_}
 use borrow.Author.Needs.{needs}
 use native.Mathlib.Omega.{arith}
 use mathlib.Core.Path.{_≡_, refl, sym, ap, _∙_}
-use Prim.Native.Nat.{ℕ, _+_, _-_, _≤_}
+use Prim.Native.Nat.{ℕ, _+_, _-_}
 use Rattle.sealed.proofs.frame.put_framed.Statement.{statement}
 use Rattle.sealed.proofs.frame.put_framed.Tie as tie
 
@@ -37,8 +34,6 @@ returns c =
     let a = c .before .before .before .before .before .before .before .before .before .before .before .before .before .before .before .before .before .before .before .before .before .before .before .args in
     let n = a .n in
     let body = a .body .now in
-    let ciph = cipher (a .w .now) in
-    let dot = productBy (a .m .now) in
     let o1 = c .before .before .before .before .before .before .before .before .before .before .before .before .copy .last .1 .0 in
     let y = c .before .before .before .before .before .before .before .copy2 .last .1 .0 in
     let o2 = putMid headLen (length o1 - headLen) o1 y in
@@ -47,12 +42,11 @@ returns c =
     let lb : length (take n body) ≡ n = length-take-le n body (omega arith) in
     let sealing = c .before .before .before .before .before .before .before .before .before .before .before .before .before .before .before .before .before .before .seal-with in
     let inner = take (n + tagLen) (sealing .last .1 .1 .1 .1 .0) in
-    let whole : (b : List ℕ) → 16 ≤ length (ciph b) = λ b. le-of-eq (sym (cipher-length (a .w .now) b)) in
     let lh : length (a .t4) ≡ headLen = sym (slice-aggregate-seal-with (c .before .before .before .before .before .before .before .before .before .before .before .before .before .before .before .before .before .before .before .before)) in
-    let ex : inner ≡ sealed ciph dot (a .nonce) (a .t4) (take n body) =
-    ap (take (n + tagLen)) (sealing .ensures .1) ∙ sealed-front ciph whole dot (a .nonce) (a .t4) body n lh (c .before .before .before .before .before .before .before .before .before .before .before .before .before .before .before .before .before .before .before .before .before .before .before .pre .0) (c .before .before .before .before .before .before .before .before .before .before .before .before .before .before .before .before .before .before .before .before .before .before .before .pre .1)
+    let ex : inner ≡ sealed (cipher (a .w .now)) (productBy (a .m .now)) (a .nonce) (a .t4) (take n body) =
+    ap (take (n + tagLen)) (sealing .ensures .1) ∙ sealed-front (a .w .now) (a .m .now) (a .nonce) (a .t4) body n lh (c .before .before .before .before .before .before .before .before .before .before .before .before .before .before .before .before .before .before .before .before .before .before .before .pre .0) (c .before .before .before .before .before .before .before .before .before .before .before .before .before .before .before .before .before .before .before .before .before .before .before .pre .1)
     in
-    let lx : length inner ≡ n + tagLen = ap length ex ∙ length-sealed ciph whole dot (a .nonce) (a .t4) (take n body) ∙ ap (λ (i : ℕ). i + tagLen) lb in
+    let lx : length inner ≡ n + tagLen = ap length ex ∙ sealed-length (a .w .now) (a .m .now) (a .nonce) (a .t4) (take n body) ∙ ap (λ (i : ℕ). i + tagLen) lb in
     let t = c .before .before .before .before .before .before .before .before .before .before .before .before .before .before .before .bytes4 .result in
     let et : t ≡ littleBytes trailerLen (length (take n body) + frameLen) = c .before .before .before .before .before .before .before .before .before .before .before .before .before .before .before .bytes4 .ensures ∙ ap (λ (i : ℕ). littleBytes trailerLen (i + frameLen)) (sym lb) in
     let lt : length t ≡ trailerLen = search needs in
