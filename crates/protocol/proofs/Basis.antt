@@ -2,7 +2,7 @@
 -- what was sealed opens to what was sealed. The proofs above use these laws and never the layouts or the cipher.
 -- Assumes nothing.
 use Prim.Native.Nat.{ℕ, _+_, _-_, _≤_, _<_}
-use mathlib.Core.Path.{_≡_}
+use mathlib.Core.Path.{_≡_, sym, ap, _∙_}
 use mathlib.Core.Bool.{true}
 use mathlib.Core.List.{List, []}
 use mathlib.Core.Option.{Option, some}
@@ -39,6 +39,7 @@ pub record Writable (r : Opened) : Type 0 where
   pub lane : r .lane < lanes
   pub number : r .number ≤ counterMax
   pub epoch : r .epoch ≤ counterMax
+  pub size : r .size ≡ length (r .text) + frameLen
 
 -- a file that Checkpoint or Recover can put out
 pub record FileWritable (f : OpenedFile) : Type 0 where
@@ -55,7 +56,9 @@ module _ (key : List ℕ) where
 
   -- what was sealed opens to what was sealed
   pub opens : (r : Opened) → Writable r → openRecord (aesGcm key) (bytesOf r) ≡ some r
-  opens r w = record-opens key (r .lane) (r .epoch) (r .number) (r .text) (w .fine) (w .lane) (omega (arith, w .epoch)) (omega (arith, w .number))
+  opens r w =
+      record-opens key (r .lane) (r .epoch) (r .number) (r .text) (w .fine) (w .lane) (omega (arith, w .epoch)) (omega (arith, w .number))
+      ∙ ap (λ (n : ℕ). some (record { lane = r .lane; epoch = r .epoch; number = r .number; text = r .text; size = n })) (sym (w .size))
 
   pub file-opens : (f : OpenedFile) → FileWritable f → openFile (aesGcm key) (fileOf f) ≡ some f
   file-opens f w = Files.file-opens key (f .version) (f .seal) (f .table) (omega (arith, w .version)) (omega (arith, w .seal)) (w .canonical)

@@ -118,7 +118,7 @@ module _ (key : List ℕ) (x : Vault) (book : List Opened) (sealed : Opened → 
     unfolding behind
     first n g was r e =
         let s = drop (g .offset) log in
-        let is = records-at key log (g .offset) n r e in (
+        let is = records-at (aesGcm key) log (g .offset) n r e in (
           was (take (wholeLen s) s) r (rw is (List·Memᴰ·head refl)) (at-opens (aesGcm key) log (g .offset) r e),
           λ b y m. was b y (rw is (List·Memᴰ·tail m)),
         )

@@ -30,6 +30,7 @@ use Rattle.transaction.specs.Transaction.{legal}
 use Rattle.table.specs.Table.{lanes, emptyTable}
 use Rattle.sealed.specs.Record.{Opened}
 use Rattle.sealed.specs.Checkpoint.{OpenedFile}
+use Rattle.sealed.specs.Frame.{frameLen}
 use Rattle.protocol.specs.Vaults.{counterMax, setW, setV, setR, setE, setS, setN}
 use Rattle.protocol.specs.States.{listed, pointsMax, heldText}
 use Rattle.protocol.specs.Point.{Mark, marksOf}
@@ -280,7 +281,7 @@ Exact x spots = (l : ℕ) → at (x .r) l + cnt l spots ≡ at (x .w) l
 
 -- the record of the transaction held, at its position
 abbrev pub heldSpot : State → Spot
-heldSpot c = record { position = c .held .position; rec = record { lane = c .held .lane; epoch = c .vault .e; number = at (c .vault .w) (c .held .lane); text = heldText c } }
+heldSpot c = record { position = c .held .position; rec = record { lane = c .held .lane; epoch = c .vault .e; number = at (c .vault .w) (c .held .lane); text = heldText c; size = length (heldText c) + frameLen } }
 
 -- the card's records, and the one that is held
 abbrev pub spotsAt : State → Durable → Due → List Spot

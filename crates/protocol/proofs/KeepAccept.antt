@@ -148,7 +148,7 @@ module _ (key : List ℕ) where
       let sv = s .common in
       let h = s .stored in
       let r = heldOpened c in
-      let sl = sealed-add {w = c .vault .w} r (omega arith) (record { fine = h .fine; bytes = h .bytes; lane = h .lane; number = i .lanes .lane (c .held .lane) .most; epoch = i .nums .e≤ }) (h .newest) (i .sealed) in
+      let sl = sealed-add {w = c .vault .w} r (omega arith) (record { fine = h .fine; bytes = h .bytes; lane = h .lane; number = i .lanes .lane (c .held .lane) .most; epoch = i .nums .e≤; size = refl }) (h .newest) (i .sealed) in
       record {
         puts = (c .held .position, refl, held-is c (s .key-is));
         rises = tt;

@@ -29,6 +29,7 @@ use Rattle.sealed.specs.Checkpoint.{fileLen, legalFile, openFile}
 use Rattle.sealed.specs.Record.{Opened, recordBytes, openRecord}
 use Rattle.sealed.proofs.NonceLaws.{nonce-m3}
 use Rattle.sealed.proofs.RecordTrip.{length-one, length-most, record-opens}
+use Rattle.sealed.specs.Frame.{frameLen}
 use Rattle.protocol.specs.Vaults.{counterMax, newVault, vaultOk, laneOk, setS}
 use Rattle.protocol.specs.States.{valid, ready, withVault}
 use Rattle.protocol.specs.Said.{Answered, taking, refuse}
@@ -78,7 +79,7 @@ m2 key = refl
 
 -- the record of lane 0 and a number
 abbrev numbered : ℕ → Opened
-numbered n = record { lane = 0; epoch = 0; number = n; text = transaction n 1 }
+numbered n = record { lane = 0; epoch = 0; number = n; text = transaction n 1; size = length (transaction n 1) + frameLen }
 
 -- it can be sealed
 abbrev fits : ℕ → Bool
@@ -96,7 +97,7 @@ writable : (n : ℕ) → fits n ≡ true → Writable (numbered n)
 writable n h =
     let a = and-true (legal (transaction n 1) && allBelow (λ i. ltb (at (transaction n 1) i) 256) 16) (leb n counterMax) h in
     let b = and-true (legal (transaction n 1)) (allBelow (λ i. ltb (at (transaction n 1) i) 256) 16) (a .0) in
-    record { fine = b .0; bytes = λ i. byte i (b .1) (ltb i 16) refl; lane = omega arith; number = leb-true n counterMax (a .1); epoch = omega arith }
+    record { fine = b .0; bytes = λ i. byte i (b .1) (ltb i 16) refl; lane = omega arith; number = leb-true n counterMax (a .1); epoch = omega arith; size = refl }
   where
     byte : (i : ℕ) → allBelow (λ i. ltb (at (transaction n 1) i) 256) 16 ≡ true → (t : Bool) → ltb i 16 ≡ t → at (transaction n 1) i < 256
     byte i all true e = ltb-true (at (transaction n 1) i) 256 (all-at _ 16 all i (ltb-true i 16 e))
@@ -180,7 +181,7 @@ sealedAt c position = withVault (accepted c (transaction 0 1) 0 position) (accep
 
 -- its record
 abbrev one : ℕ → Opened
-one n = record { lane = 0; epoch = 0; number = n; text = transaction 0 1 }
+one n = record { lane = 0; epoch = 0; number = n; text = transaction 0 1; size = length (transaction 0 1) + frameLen }
 
 commits : (b : State) (bytes : List ℕ) (r : Opened) → ready b ≡ true → openRecord (aesGcm (b .key)) bytes ≡ some r → commit b bytes ≡ commitOpened b (some r)
 unfolding commit refuse

@@ -86,7 +86,7 @@ text-legal = refl
 -- its record can be put out, and so can several of it
 only-writable : Writable onlyRecord
 unfolding onlyRecord
-only-writable = record { fine = text-legal; bytes = text-bytes; lane = lit< tt; number = omega arith; epoch = omega arith }
+only-writable = record { fine = text-legal; bytes = text-bytes; lane = lit< tt; number = omega arith; epoch = omega arith; size = refl }
 
 no-writable : AllWritable []
 no-writable r m = absurd (List·Memᴰ·not-nil m)

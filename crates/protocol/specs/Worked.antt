@@ -4,18 +4,19 @@
 -- wholeLife: all eight calls are taken. The record goes into a checkpoint and is truncated; a point is refused; a cut comes with its store done
 -- and one with its store not done; the second breaks a recovery, and the next recovery goes to its end by 24 stores.
 -- Assumes nothing.
-use Prim.Native.Nat.{ℕ}
+use Prim.Native.Nat.{ℕ, _+_}
 use mathlib.Core.Bool.{true, false}
 use mathlib.Core.List.{List, [], _∷_, _++_}
 use mathlib.Core.Option.{Option, some, none}
 use lib.IntN.{pos}
-use lib.ListN.{replicate}
+use lib.ListN.{length, replicate}
 use Rattle.table.specs.declared.Entry.{Entry}
 use Rattle.table.specs.declared.Table.{Table}
 use Rattle.table.specs.Table.{lanes, emptyTable, entered}
 use Rattle.sealed.specs.Aead.{aesGcm}
 use Rattle.sealed.specs.Record.{Opened, recordBytes}
 use Rattle.sealed.specs.Checkpoint.{fileLen, fileBytes}
+use Rattle.sealed.specs.Frame.{frameLen}
 use Rattle.protocol.specs.Vaults.{newVault}
 use Rattle.protocol.specs.States.{noJournal, noPoints, noHeld}
 use Rattle.protocol.specs.Said.{Answered}
@@ -43,7 +44,7 @@ oneReading = entered emptyTable text 0 1
 
 -- its record: the first of lane 0, in epoch 0
 unfoldable pub onlyRecord : Opened
-onlyRecord = record { lane = 0; epoch = 0; number = 1; text = text }
+onlyRecord = record { lane = 0; epoch = 0; number = 1; text = text; size = length text + frameLen }
 
 -- ---- the cards
 
