@@ -1,15 +1,15 @@
 -- Copies over the start of a string.
 -- Assumes nothing.
-use mathlib.Core.Path.{_≡_, refl, sym, ap, ap₂, _∙_}
+use mathlib.Core.Path.{_≡_, refl, sym, ap, _∙_}
 use mathlib.Core.List.{List, [], _∷_, _++_, append-nil}
-use Prim.Native.Nat.{ℕ, zero, suc, _+_, _-_, _<_, _≤_, suc-le-suc}
+use Prim.Native.Nat.{ℕ, zero, suc, _+_, _-_, _<_, _≤_}
 use native.Mathlib.Nat.{zero-add, not-suc-le-zero, le-of-suc-le-suc}
 use native.Mathlib.Numerals.{add-one}
 use native.Mathlib.Omega.{arith}
 use lib.Bits.{bitXor}
 use lib.ListN.{length, getD, take, drop, set, replicate, length-append, length-take, length-drop, drop-of-length-le}
 use lib.Seq.{take-all, take-nil, sets, sets-eq, lt-length-sets}
-use Rattle.octets.specs.Lists.{at, from, tab, over}
+use Rattle.octets.specs.Lists.{at, from, tab, putOver, over}
 use Rattle.octets.specs.Bytes.{padded, xorBytes}
 
 -- d after a loop that has copied i bytes of s
@@ -34,31 +34,35 @@ length-copied (suc i) [] d = refl
 length-copied (suc i) (x ∷ s) [] = refl
 length-copied (suc i) (x ∷ s) (y ∷ d) = ap suc (length-copied i s d)
 
+pub over-none : (d : List ℕ) → over [] d ≡ d
+unfolding over
+over-none d = ap (λ (l : List ℕ). putOver l d) (take-nil (length d))
+
 -- all of it, or all there is room for
 pub copied-all : (i : ℕ) (s d : List ℕ) → length s ≤ i → copiedTo i s d ≡ over s d
 unfolding copiedTo over
-copied-all zero [] d h = ap (λ (l : List ℕ). l ++ d) (sym (take-nil (length d)))
+copied-all zero [] d h = sym (over-none d)
 copied-all zero (x ∷ s) d h = absurd (not-suc-le-zero h)
-copied-all (suc i) [] d h = ap (λ (l : List ℕ). l ++ d) (sym (take-nil (length d)))
+copied-all (suc i) [] d h = sym (over-none d)
 copied-all (suc i) (x ∷ s) [] h = refl
 copied-all (suc i) (x ∷ s) (y ∷ d) h = ap (λ (l : List ℕ). x ∷ l) (copied-all i s d (le-of-suc-le-suc h))
 
 pub copied-full : (i : ℕ) (s d : List ℕ) → length d ≤ i → copiedTo i s d ≡ over s d
 unfolding copiedTo over
-copied-full zero s [] h = sym (drop-of-length-le [] {i = length s} (omega arith))
+copied-full zero s [] h = refl
 copied-full zero s (y ∷ d) h = absurd (not-suc-le-zero h)
-copied-full (suc i) [] d h = ap (λ (l : List ℕ). l ++ d) (sym (take-nil (length d)))
+copied-full (suc i) [] d h = sym (over-none d)
 copied-full (suc i) (x ∷ s) [] h = refl
 copied-full (suc i) (x ∷ s) (y ∷ d) h = ap (λ (l : List ℕ). x ∷ l) (copied-full i s d (le-of-suc-le-suc h))
 
 pub length-over : (s d : List ℕ) → length (over s d) ≡ length d
 unfolding over
-length-over s d = length-append (take (length d) s) (drop (length s) d) ∙ simp (length-take, length-drop) (omega arith)
+length-over s d = length-append (take (length d) s) (drop (length (take (length d) s)) d) ∙ simp (length-take, length-drop) (omega arith)
 
 -- where there is room for all of it
-pub over-room : (s d : List ℕ) → length s ≤ length d → over s d ≡ s ++ drop (length s) d
+pub over-room : (s d : List ℕ) → length s ≤ length d → over s d ≡ putOver s d
 unfolding over
-over-room s d h = ap (λ (l : List ℕ). l ++ drop (length s) d) (take-all (length d) s h)
+over-room s d h = ap (λ (l : List ℕ). putOver l d) (take-all (length d) s h)
 
 -- where there is room for just that
 pub over-whole : (s d : List ℕ) → length s ≡ length d → over s d ≡ s
@@ -68,10 +72,10 @@ over-whole s d e =
 -- the sum of a string, padded to the length of k, and k, copied over the string
 pub over-xor : (n : ℕ) (s k : List ℕ) → length k ≡ n → over (xorBytes (padded n s) k) s ≡ xorBytes (take n s) k ++ drop n s
 unfolding over xorBytes padded
-over-xor zero s [] e = ap (λ (l : List ℕ). l ++ s) (take-nil (length s))
+over-xor zero s [] e = over-none s
 over-xor zero s (y ∷ k) e = let z : 0 < zero = omega (arith, e) in absurd (not-suc-le-zero z)
 over-xor (suc n) s [] e = let z : 0 < zero = omega (arith, e) in absurd (not-suc-le-zero z)
-over-xor (suc n) [] (y ∷ k) e = drop-of-length-le [] {i = length (xorBytes (padded (suc n) []) (y ∷ k))} (omega arith)
+over-xor (suc n) [] (y ∷ k) e = refl
 over-xor (suc n) (x ∷ s) (y ∷ k) e = ap (λ (l : List ℕ). bitXor x y ∷ l) (over-xor n s k (omega (arith, e)))
 
 -- a list by its places
@@ -84,10 +88,6 @@ tab-of zero [] e = refl
 tab-of zero (x ∷ l) e = let z : 0 < zero = omega (arith, e) in absurd (not-suc-le-zero z)
 tab-of (suc n) [] e = let z : 0 < zero = omega (arith, e) in absurd (not-suc-le-zero z)
 tab-of (suc n) (x ∷ l) e = ap (λ (t : List ℕ). x ∷ t) (from-tail n 0 x l ∙ tab-of n l (omega (arith, e)))
-
-zeros-nil : (n : ℕ) → replicate {A = ℕ} n 0 ≡ over [] (replicate {A = ℕ} n 0)
-unfolding over
-zeros-nil n = ap (λ (l : List ℕ). l ++ replicate {A = ℕ} n 0) (sym (take-nil (length (replicate {A = ℕ} n 0))))
 
 -- 16 bytes by their places
 pub sixteen : (l : List ℕ) → length l ≡ 16
@@ -110,5 +110,5 @@ stored-whole s t e room =
 pub over-zeros : (n : ℕ) (s : List ℕ) → padded n (over s (replicate n 0)) ≡ padded n s
 unfolding over padded
 over-zeros zero s = refl
-over-zeros (suc n) [] = ap (λ (l : List ℕ). 0 ∷ l) (ap (padded n) (zeros-nil n) ∙ over-zeros n [])
+over-zeros (suc n) [] = ap (λ (l : List ℕ). 0 ∷ l) (ap (padded n) (sym (over-none (replicate n 0))) ∙ over-zeros n [])
 over-zeros (suc n) (x ∷ s) = ap (λ (l : List ℕ). x ∷ l) (over-zeros n s)

@@ -21,6 +21,6 @@ tab n f = from 0 n f
 abbrev pub putOver : List ℕ → List ℕ → List ℕ
 putOver put s = put ++ drop (length put) s
 
--- s copied over the start of d, as much of it as d has room for; the rest of d stays
+-- a copy: as much of s as d has room for stands over the start of d
 unfoldable pub over : List ℕ → List ℕ → List ℕ
-over s d = take (length d) s ++ drop (length s) d
+over s d = putOver (take (length d) s) d
