@@ -1,5 +1,6 @@
 -- Laws that the layers above cite.
 pub mod BoolLaws
+pub mod EveryLaws
 pub mod Table
 pub mod Build
 pub mod XorLaws

@@ -12,8 +12,8 @@ use lib.Dec.{ltb, eqb}
 use lib.ListN.{set, length, List·getD-eq-default}
 use borrow.Author.Tests.{ltb-true, eqb-true, ltb-false}
 use Rattle.octets.specs.Lists.{at}
-use Rattle.transaction.specs.Every.{allBelow}
-use Rattle.transaction.proofs.EveryLaws.{all-at}
+use Rattle.octets.specs.Every.{allBelow}
+use Rattle.octets.proofs.EveryLaws.{all-at}
 use Rattle.table.specs.Table.{lanes}
 use Rattle.sealed.specs.Aead.{aesGcm}
 use Rattle.sealed.specs.Record.{Opened}

@@ -15,10 +15,10 @@ use borrow.Author.Tests.{ltb-true, ltb-false, leb-true, le-ltb}
 use Rattle.octets.specs.Lists.{at}
 use Rattle.octets.specs.Little.{little, littleBytes}
 use Rattle.octets.specs.Bytes.{padded}
+use Rattle.octets.specs.Every.{allBelow}
+use Rattle.octets.proofs.EveryLaws.{and-true, all-at}
 use Rattle.aes_key.specs.Gf.{xTimes, timesBits, _•_, squares, inverse}
 use Rattle.aes_key.specs.Sbox.{bit, affineBit, affineBits, affine, sbox}
-use Rattle.transaction.specs.Every.{allBelow}
-use Rattle.transaction.proofs.EveryLaws.{and-true, all-at}
 use Rattle.transaction.specs.Signed.{signedOf}
 use Rattle.transaction.specs.Transaction.{writeCount, legalLen, stampOf, writeIn, writeAt, lowest, legalWrite, legal}
 use Rattle.table.specs.Table.{emptyTable, entryOf, entryAt, put, putTo, entered}

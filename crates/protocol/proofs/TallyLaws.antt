@@ -12,8 +12,8 @@ use lib.Dec.{eqb}
 use lib.ListN.{length}
 use borrow.Author.Tests.{lt-leb, le-ltb, lt-ltb, eq-eqb, eqb-true, not-false}
 use Rattle.octets.specs.Lists.{at}
-use Rattle.transaction.specs.Every.{allBelow}
-use Rattle.transaction.proofs.EveryLaws.{and-true, all-at, all-of}
+use Rattle.octets.specs.Every.{allBelow}
+use Rattle.octets.proofs.EveryLaws.{and-true, all-at, all-of}
 use Rattle.table.specs.declared.Table.{Table}
 use Rattle.table.specs.Table.{lanes}
 use Rattle.table.proofs.OrderLaws.{clash}

@@ -9,7 +9,7 @@ use native.Mathlib.Omega.{arith}
 use lib.Dec.{eqb}
 use lib.ListN.{length, length-map}
 use borrow.Author.Tests.{le-leb, le-ltb, eq-eqb, ne-eqb}
-use Rattle.transaction.proofs.EveryLaws.{and-both}
+use Rattle.octets.proofs.EveryLaws.{and-both}
 use Rattle.table.specs.Table.{lanes, emptyTable}
 use Rattle.table.proofs.OrderLaws.{clash}
 use Rattle.table.specs.declared.Table.{Table}

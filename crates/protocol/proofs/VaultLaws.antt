@@ -12,7 +12,7 @@ use lib.Dec.{leb, eqb}
 use lib.ListN.{set}
 use borrow.Author.Tests.{leb-true, eqb-true, le-leb, eq-eqb}
 use Rattle.octets.specs.Lists.{at}
-use Rattle.transaction.proofs.EveryLaws.{and-true, and-both, all-at, all-of}
+use Rattle.octets.proofs.EveryLaws.{and-true, and-both, all-at, all-of}
 use Rattle.table.specs.Table.{lanes}
 use Rattle.protocol.specs.Vaults.{counterMax, laneOk, vaultOk, setV, setR, setE, setS, setN}
 use Rattle.protocol.specs.States.{listed, pointsMax, valid}

@@ -16,8 +16,8 @@ use lib.ListN.{length, getD, replicate, length-append}
 use Rattle.octets.specs.Lists.{at}
 use Rattle.octets.specs.Bytes.{padded}
 use Rattle.octets.specs.Little.{little}
+use Rattle.octets.specs.Every.{allBelow}
 use Rattle.octets.proofs.BoolLaws.{and-left, and-right}
-use Rattle.transaction.specs.Every.{allBelow}
 use Rattle.transaction.specs.Signed.{signedOf}
 use Rattle.transaction.specs.Transaction.{legal, legalLen, writeCount, stampOf, writeAt, writeIn, lowest, legalWrite}
 use Rattle.table.specs.declared.Table.{Table}

@@ -10,8 +10,8 @@ use mathlib.Core.Option.{Option, some, none}
 use lib.Dec.{leb, ltb, eqb}
 use lib.ListN.{length}
 use Rattle.octets.specs.Lists.{at}
+use Rattle.octets.specs.Every.{allBelow}
 use Rattle.transaction.specs.Edition.{present}
-use Rattle.transaction.specs.Every.{allBelow}
 use Rattle.table.specs.declared.Table.{Table}
 use Rattle.table.specs.Table.{lanes, emptyTable}
 use Rattle.sealed.specs.Aead.{Aead, aesGcm}

@@ -6,7 +6,7 @@ use mathlib.Core.Bool.{Bool, _&&_, _||_}
 use lib.Dec.{leb, eqb}
 use lib.ListN.{set, replicate}
 use Rattle.octets.specs.Lists.{at}
-use Rattle.transaction.specs.Every.{allBelow}
+use Rattle.octets.specs.Every.{allBelow}
 use Rattle.table.specs.Table.{lanes}
 use Rattle.protocol.specs.declared.Vault.{Vault}
 

@@ -5,7 +5,7 @@
 ghost use mathlib.Core.Path.{_≡_};
 ghost use lib.ListN.{set};
 ghost use Rattle.octets.specs.Lists.{at};
-ghost use Rattle.transaction.specs.Every.{allBelow};
+ghost use Rattle.octets.specs.Every.{allBelow};
 ghost use Rattle.table.specs.Table.{lanes};
 ghost use Rattle.protocol.specs.Vaults.{newVault, laneOk, vaultOk, setW, setV, setR, setE, setS, setN};
 use protocol::Vault;

@@ -1,7 +1,7 @@
 -- `vault::lanes_ok` meets its contract. The invariant: the lanes so far keep the rule or not. The measure is the lanes left. Assumes nothing.
-use Rattle.transaction.specs.Every.{allBelow}
-use Rattle.transaction.proofs.EveryLaws.{all-none, all-more}
 use Rattle.octets.specs.Lists.{at}
+use Rattle.octets.specs.Every.{allBelow}
+use Rattle.octets.proofs.EveryLaws.{all-none, all-more}
 use Rattle.protocol.specs.Vaults.{laneOk}
 use borrow.Author.Needs.{needs}
 use native.Mathlib.Omega.{arith}

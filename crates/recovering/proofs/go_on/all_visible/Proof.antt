@@ -1,7 +1,7 @@
 -- `recovering::go_on::all_visible` meets its contract: the invariant is that the lanes so far are visible or not, and the measure is the lanes left. Assumes nothing.
-use Rattle.transaction.specs.Every.{allBelow}
-use Rattle.transaction.proofs.EveryLaws.{all-none, all-more}
 use Rattle.octets.specs.Lists.{at}
+use Rattle.octets.specs.Every.{allBelow}
+use Rattle.octets.proofs.EveryLaws.{all-none, all-more}
 use Rattle.protocol.specs.Recover.{allVisible}
 use borrow.Author.Needs.{needs}
 use native.Mathlib.Omega.{arith}
