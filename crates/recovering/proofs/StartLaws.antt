@@ -12,13 +12,11 @@ use borrow.Author.Tests.{ltb-false, lt-ltb, le-ltb, eq-eqb, ne-eqb}
 use lib.Dec.{leb, ltb, eqb, leb·suc-suc}
 use lib.ListN.{length}
 use Rattle.octets.proofs.BoolLaws.{or-left, or-right}
-use Rattle.aes.specs.Cipher.{cipher}
-use Rattle.ghash.specs.Multiples.{productBy}
 use Rattle.gcm.specs.Key.{prepared}
 use Rattle.gcm.specs.declared.Key.{Key}
 use Rattle.table.specs.declared.Table.{Table}
 use Rattle.table.specs.Table.{emptyTable}
-use Rattle.sealed.specs.Aead.{Aead, aesGcm, gcmBy}
+use Rattle.sealed.specs.Aead.{Aead, aesGcm, preparedBy}
 use Rattle.sealed.specs.Checkpoint.{OpenedFile, openFile, shownFile}
 use Rattle.sealed.specs.declared.file.FileHead.the-variants as H
 use Rattle.sealed.specs.declared.file.FileRead.{FileRead}
@@ -112,7 +110,7 @@ module _ (a : Aead) (x : Vault) (file log : List ℕ) {d : Read} where
 -- under a prepared key it is what is read under the key
 module _ (key : List ℕ) (x : Vault) (file log : List ℕ) where
   abbrev ready : Aead
-  ready = gcmBy (cipher (prepared key .schedule)) (productBy (prepared key .multiples))
+  ready = preparedBy (prepared key .schedule) (prepared key .multiples)
 
   same-file : (o : Option OpenedFile) → readFile ready x log o ≡ readFile (aesGcm key) x log o
   unfolding readFile
@@ -125,8 +123,8 @@ module _ (key : List ℕ) (x : Vault) (file log : List ℕ) where
       ap₂ (λ (p q : Read). cond (eqb (x .s) 0) (orStop (not (eqb (length file) 0)) 9 (0 ∷ []) p) q) (prepared-replay key x emptyTable log)
       (ap (readFile ready x log) (prepared-file key file) ∙ same-file (openFile (aesGcm key) file))
 
-  pub read-under : (k : Key) {d : Read} → k ≡ prepared key → d ≡ readFrom (gcmBy (cipher (k .schedule)) (productBy (k .multiples))) x file log → d ≡ readFrom (aesGcm key) x file log
-  read-under k ek e = e ∙ ap (λ (j : Key). readFrom (gcmBy (cipher (j .schedule)) (productBy (j .multiples))) x file log) ek ∙ prepared-from
+  pub read-under : (k : Key) {d : Read} → k ≡ prepared key → d ≡ readFrom (preparedBy (k .schedule) (k .multiples)) x file log → d ≡ readFrom (aesGcm key) x file log
+  read-under k ek e = e ∙ ap (λ (j : Key). readFrom (preparedBy (j .schedule) (j .multiples)) x file log) ek ∙ prepared-from
 
 -- ---- the answers
 

@@ -1,9 +1,7 @@
 // What the first call of Recover (01, Operations) reads: the checkpoint and the log are read where they lie, with the key
 // prepared once.
 ghost use mathlib.Core.Path.{_≡_};
-ghost use Rattle.aes.specs.Cipher.{cipher};
-ghost use Rattle.ghash.specs.Multiples.{productBy};
-ghost use Rattle.sealed.specs.Aead.{aesGcm, gcmBy};
+ghost use Rattle.sealed.specs.Aead.{aesGcm, preparedBy};
 ghost use Rattle.protocol.specs.Said.{numberOf, valuesOf};
 ghost use Rattle.protocol.specs.Replay.{stopped};
 ghost use Rattle.protocol.specs.Recover.{spent, readFrom};
@@ -48,7 +46,7 @@ fn read_under<'a>(
     checkpoint: &[u8],
     log: &[u8],
 ) -> LogRead
-    ensures { λ r. ⌜ readOf r ≡ readFrom (gcmBy (cipher (now (w .entry))) (productBy (now (m .entry)))) x (now (checkpoint .entry)) (now (log .entry)) ⌝ }
+    ensures { λ r. ⌜ readOf r ≡ readFrom (preparedBy (now (w .entry)) (now (m .entry))) x (now (checkpoint .entry)) (now (log .entry)) ⌝ }
 {
     let s = x.s;
     if s == 0 {

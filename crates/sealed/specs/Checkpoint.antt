@@ -35,7 +35,7 @@ unfoldable pub fileHead : ℕ → ℕ → List ℕ
 fileHead version seal = fileKind ∷ 0 ∷ 0 ∷ 0 ∷ (littleBytes 8 version ++ littleBytes 8 seal)
 
 abbrev pub fileNonce : ℕ → List ℕ
-fileNonce seal = nonceOf fileKind 0 seal
+fileNonce seal = nonceOf (present .fileFirst) 0 seal
 
 unfoldable pub fileBytes : Aead → ℕ → ℕ → Table → List ℕ
 fileBytes a version seal t = framed a (fileNonce seal) (fileHead version seal) (tableText t)

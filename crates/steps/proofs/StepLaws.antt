@@ -10,15 +10,13 @@ use borrow.Author.Tests.{le-leb, lt-leb, lt-ltb, le-ltb}
 use lib.Dec.{leb}
 use lib.ListN.{length}
 use Rattle.octets.specs.Lists.{putOver}
-use Rattle.aes.specs.Cipher.{cipher}
-use Rattle.ghash.specs.Multiples.{productBy}
 use Rattle.gcm.specs.Key.{prepared}
 use Rattle.gcm.specs.declared.Key.{Key}
 use Rattle.transaction.specs.Transaction.{meters}
 use Rattle.table.specs.declared.Table.{Table}
 use Rattle.table.specs.TableText.{tableText}
 use Rattle.table.proofs.TextLaws.{length-table}
-use Rattle.sealed.specs.Aead.{aesGcm, gcmBy}
+use Rattle.sealed.specs.Aead.{aesGcm, preparedBy}
 use Rattle.sealed.specs.Checkpoint.{fileLen, fileHead, fileNonce, fileBytes, fileAnswer, filePut}
 use Rattle.sealed.proofs.FrameTrip.{aes-grows, length-framed}
 use Rattle.sealed.proofs.FileLaws.{length-head, prepared-file-bytes}
@@ -38,11 +36,11 @@ use Rattle.protocol.specs.declared.Refusal.the-variants as R
 
 -- put out under a prepared key it is put out under the key
 pub sealed-under : (key o : List ℕ) (k : Key) (version seal : ℕ) (t : Table) {q : List ℕ} → k ≡ prepared key
-    → q ≡ putOver (filePut (fileAnswer (length o)) (fileBytes (gcmBy (cipher (k .schedule)) (productBy (k .multiples))) version seal t)) o
+    → q ≡ putOver (filePut (fileAnswer (length o)) (fileBytes (preparedBy (k .schedule) (k .multiples)) version seal t)) o
     → q ≡ putOver (filePut (fileAnswer (length o)) (fileBytes (aesGcm key) version seal t)) o
 sealed-under key o k version seal t ek e =
     e ∙ ap (λ (f : List ℕ). putOver (filePut (fileAnswer (length o)) f) o)
-    (ap (λ (j : Key). fileBytes (gcmBy (cipher (j .schedule)) (productBy (j .multiples))) version seal t) ek ∙ prepared-file-bytes key version seal t)
+    (ap (λ (j : Key). fileBytes (preparedBy (j .schedule) (j .multiples)) version seal t) ek ∙ prepared-file-bytes key version seal t)
 
 -- whatever its entries are, it has the length of a file
 length-put : (key : List ℕ) (version seal : ℕ) (t : Table) → length (t .entries) ≡ meters → length (fileBytes (aesGcm key) version seal t) ≡ fileLen
