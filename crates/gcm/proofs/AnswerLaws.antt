@@ -1,28 +1,27 @@
 -- What sealing and opening leave in the lent buffer, from what their parts leave; and each answer from the tests that lead to it.
 -- Assumes nothing.
 use mathlib.Core.Path.{_≡_, refl, sym, ap, ap₂, _∙_}
-use mathlib.Core.Bool.{Bool, true, false, cond, _||_}
-use mathlib.Core.List.{List, [], _∷_, _++_, append-assoc}
+use mathlib.Core.Bool.{true, false}
+use mathlib.Core.List.{List, _++_, append-assoc}
 use mathlib.Core.Option.{Option, some, none}
-use Prim.Native.Nat.{ℕ, zero, suc, _+_, _-_, _<_, _≤_}
+use Prim.Native.Nat.{ℕ, _+_, _-_, _<_, _≤_}
 use native.Mathlib.Omega.{arith}
 use borrow.Author.Tests.{le-ltb, lt-ltb, ltb-false}
 use lib.Dec.{ltb}
 use lib.ListN.{length, take, drop, length-append, length-drop}
 use lib.Seq.{take-at, drop-at, drop-drop, length-take-le}
 use Rattle.octets.specs.Lists.{over, putOver}
-use Rattle.octets.specs.Bytes.{bytesOf, sameBytes}
+use Rattle.octets.specs.Bytes.{sameBytes}
 use Rattle.octets.proofs.BoolLaws.{or-left, or-right}
 use Rattle.octets.proofs.CopyLaws.{over-room}
-use Rattle.octets.proofs.ByteLaws.{length-bytes}
 use Rattle.aes.specs.Counter.{inc32, gctr}
 use Rattle.aes.proofs.CounterLaws.{gctr-length}
-use Rattle.gcm.specs.Gcm.{maxPlain, maxData, tagLen, preCounter, onlyIf, cipherText, tagOf, sealed, opened}
+use Rattle.gcm.specs.Gcm.{maxPlain, maxData, preCounter, onlyIf, cipherText, tagOf, sealed, opened}
 use Rattle.gcm.specs.Answers.{beyond, sealing, sealPut, textAnswer, textPut, openAnswer, openPut, sealedIn, textIn, opening, openedIn}
 use Rattle.gcm.specs.declared.Sealing.the-variants as S
 use Rattle.gcm.specs.declared.Opening.{Opening}
 use Rattle.gcm.specs.declared.Opening.the-variants as O
-use Rattle.gcm.proofs.SealLaws.{length-cipher-text, length-tag, length-sealed}
+use Rattle.gcm.proofs.SealLaws.{length-cipher-text, length-tag}
 
 pub within-text : (n d : ℕ) → beyond n d ≡ false → n ≤ maxPlain
 within-text n d e = ltb-false maxPlain n (or-left (ltb maxPlain n) (ltb maxData d) e)

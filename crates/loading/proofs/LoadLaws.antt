@@ -10,7 +10,7 @@ use Rattle.octets.specs.Lists.{over}
 use Rattle.octets.proofs.CopyLaws.{over-whole}
 use Rattle.protocol.specs.Vaults.{vaultOk}
 use Rattle.protocol.specs.Said.{refuse, shownAs, shown, numberOf, valuesOf, refusedWith, takenWith}
-use Rattle.protocol.specs.Load.{loaded, blank, load}
+use Rattle.protocol.specs.Load.{keyLen, loaded, blank, load}
 use Rattle.protocol.specs.declared.Vault.{Vault}
 use Rattle.protocol.specs.declared.Store.the-variants as S
 use Rattle.protocol.specs.declared.Refusal.the-variants as R
@@ -22,11 +22,11 @@ module _ (x : Vault) (key : List ℕ) where
   load-numbers bad = rw (bad)
 
   -- a key of another length
-  pub load-length : vaultOk x ≡ true → (length key ≡ 16 → ⊥) → shownAs (refusedWith blank (R.Length 16)) [] ≡ load x key
+  pub load-length : vaultOk x ≡ true → (length key ≡ keyLen → ⊥) → shownAs (refusedWith blank (R.Length keyLen)) [] ≡ load x key
   unfolding shownAs shown numberOf valuesOf load refuse
-  load-length good other = rw (good, ne-eqb (length key) 16 other)
+  load-length good other = rw (good, ne-eqb (length key) keyLen other)
 
   -- a cold collector
-  pub load-taken : vaultOk x ≡ true → length key ≡ 16 → shownAs (takenWith (loaded x (over key (replicate 16 0))) S.Nothing 0) [] ≡ load x key
+  pub load-taken : vaultOk x ≡ true → length key ≡ keyLen → shownAs (takenWith (loaded x (over key (replicate keyLen 0))) S.Nothing 0) [] ≡ load x key
   unfolding shownAs shown load refuse
-  load-taken good same = rw (good, eq-eqb (length key) 16 same, over-whole key (replicate 16 0) same)
+  load-taken good same = rw (good, eq-eqb (length key) keyLen same, over-whole key (replicate keyLen 0) same)

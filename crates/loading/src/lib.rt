@@ -4,7 +4,7 @@ ghost use mathlib.Core.List.{[]};
 ghost use lib.ListN.{replicate};
 ghost use Rattle.octets.specs.Lists.{over};
 ghost use Rattle.protocol.specs.Said.{shownAs};
-ghost use Rattle.protocol.specs.Load.{loaded, blank, load};
+ghost use Rattle.protocol.specs.Load.{keyLen, loaded, blank, load};
 use protocol::Answer;
 use protocol::Due;
 use protocol::Phase;
@@ -47,7 +47,7 @@ pub fn blank() -> State
 
 // A key in an array, as much of it as there is room for, and zeros behind it.
 fn key_of(key: &[u8]) -> [u8; KEY_LEN]
-    ensures { λ r. ⌜ r ≡ over (now (key .entry)) (replicate 16 0) ⌝ }
+    ensures { λ r. ⌜ r ≡ over (now (key .entry)) (replicate keyLen 0) ⌝ }
 {
     let mut out = [0u8; KEY_LEN];
     octets::copy(key, &mut out);

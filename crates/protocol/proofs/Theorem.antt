@@ -32,7 +32,6 @@ use Rattle.protocol.specs.declared.Vault.{Vault}
 use Rattle.protocol.specs.declared.State.{State}
 use Rattle.protocol.specs.declared.Phase.{Phase}
 use Rattle.protocol.specs.declared.Phase.the-variants as F
-use Rattle.protocol.specs.declared.Due.the-variants as D
 use Rattle.protocol.specs.declared.Store.the-variants as S
 use Rattle.protocol.proofs.SpentLaws.{unspent-passes, spent-else}
 use Rattle.protocol.proofs.Walks.{walk-recover, past-refuse, at-refuse}

@@ -143,7 +143,7 @@ module _ (c : State) (file log : List ℕ) where
 
     -- valid with no store due from here on
     module _ (good : not (b && d) ≡ false) where
-      pub first-long : logMax < length log → Answers (refusedWith c (R.Length 262144))
+      pub first-long : logMax < length log → Answers (refusedWith c (R.Length logMax))
       unfolding recoverFirst valid refuse shownAs shown numberOf valuesOf
       first-long h = rw (← q, ← f, good, lt-ltb logMax (length log) h)
 

@@ -2,7 +2,7 @@
 -- 3 a length beyond SP 800-38D; 4 FAIL. Where it is not 0, the lent buffer is as it came.
 -- Assumes nothing.
 use Prim.Native.Nat.{ℕ}
-use mathlib.Core.Bool.{Bool, cond}
+use mathlib.Core.Bool.{cond}
 use mathlib.Core.List.{List}
 use lib.Dec.{eqb}
 use lib.ListN.{length}

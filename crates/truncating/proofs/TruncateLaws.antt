@@ -5,15 +5,15 @@ use mathlib.Core.Path.{_≡_, refl}
 use mathlib.Core.Bool.{Bool, true, false, not, _&&_, _||_}
 use mathlib.Core.List.{[]}
 use mathlib.Core.Option.{Option, some, none}
-use lib.Dec.{leb, eqb}
+use lib.Dec.{leb}
 use native.Mathlib.Omega.{arith}
 use borrow.Author.Tests.{lt-ltb, le-ltb, eq-eqb, ne-eqb}
 use Rattle.octets.specs.Lists.{at}
 use Rattle.table.specs.Table.{lanes}
 use Rattle.protocol.specs.Vaults.{setR}
-use Rattle.protocol.specs.States.{valid, serving, withVault, withPoints, validBy}
-use Rattle.protocol.specs.Said.{Answered, refuse, refusing, taking, shownAs, shown, numberOf, valuesOf, refusedWith, takenWith}
-use Rattle.protocol.specs.Truncate.{pointsOf, findPoint, droppedTo, afterTruncateR, truncateLane, uncovered, truncateFirst, truncateNext, truncateDelete, truncateStep, truncateDue, truncate}
+use Rattle.protocol.specs.States.{valid, serving, withVault, validBy}
+use Rattle.protocol.specs.Said.{refuse, shownAs, shown, numberOf, valuesOf, refusedWith, takenWith}
+use Rattle.protocol.specs.Truncate.{pointsOf, findPoint, afterTruncateR, truncateLane, uncovered, truncateFirst, truncateNext, truncateDelete, truncateStep, truncateDue, truncate}
 use Rattle.protocol.specs.declared.Vault.{Vault}
 use Rattle.protocol.specs.declared.Point.{Point}
 use Rattle.protocol.specs.declared.State.{State}
@@ -23,7 +23,6 @@ use Rattle.protocol.specs.declared.TruncateStep.{TruncateStep}
 use Rattle.protocol.specs.declared.TruncateStep.the-variants as L
 use Rattle.protocol.specs.declared.Store.the-variants as S
 use Rattle.protocol.specs.declared.Refusal.the-variants as R
-use Rattle.protocol.specs.declared.Answer.{Answer}
 use Rattle.journal.specs.Beyond.{shownPoint}
 use Rattle.journal.specs.declared.points.PointFound.{PointFound}
 

@@ -4,7 +4,7 @@ use borrow.Author.Tests.{not-true, not-false}
 use mathlib.Core.Path.{sym, ap, _∙_}
 use mathlib.Core.List.{[]}
 use Rattle.protocol.specs.Said.{shownAs, refusedWith, takenWith}
-use Rattle.protocol.specs.Load.{loaded}
+use Rattle.protocol.specs.Load.{keyLen, loaded}
 use Rattle.protocol.specs.declared.Answer.{Answer}
 use Rattle.protocol.specs.declared.State.{State}
 use Rattle.protocol.specs.declared.Store.the-variants as S
@@ -22,7 +22,7 @@ returns c =
 returns-2 : tie.Need-returns-2
 returns-2 c =
     let g = c .before .before .before .before .before .before .args in
-    ap (λ (r : Answer). shownAs r []) (c .refused2 .ensures ∙ ap (λ (s : State). refusedWith s (R.Length 16)) (c .before .blank2 .ensures))
+    ap (λ (r : Answer). shownAs r []) (c .refused2 .ensures ∙ ap (λ (s : State). refusedWith s (R.Length keyLen)) (c .before .blank2 .ensures))
     ∙ load-length (g .x) (g .key .now) (sym (c .before .before .before .before .vault-ok .ensures) ∙ not-false _ (c .before .before .before .if1 .left)) (c .before .before .if2 .taken)
 
 returns-3 : tie.Need-returns-3
