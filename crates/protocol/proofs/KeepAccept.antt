@@ -38,7 +38,8 @@ use Rattle.protocol.proofs.StoreLaws.{Up, up-set, lanes-w, lanes-v, sea
 use Rattle.protocol.proofs.KeepRecover.{good-refuse}
 use Rattle.protocol.proofs.Walks.{walk-accept}
 use Rattle.protocol.proofs.KeepCold.{unseal}
-use Rattle.protocol.proofs.Phases.{is-record, is-serving, card-of, link-serving, link-quiet, when-ready}
+use Rattle.protocol.proofs.DueLaws.{is-record, is-serving}
+use Rattle.protocol.proofs.Phases.{card-of, link-serving, link-quiet, when-ready}
 
 -- one more number of a lane, and one more record of it
 record Grown (w w′ : List ℕ) (x : Spot) (l : ℕ) (cs : List Spot) : Type 0 where

@@ -21,7 +21,7 @@ use Rattle.sealed.specs.Checkpoint.{OpenedFile, fileBytes}
 use Rattle.protocol.specs.Vaults.{counterMax, setV, setR, setE, setS, setN}
 use Rattle.protocol.specs.States.{withVault}
 use Rattle.protocol.specs.Said.{Answered, taking, refuse}
-use Rattle.protocol.specs.Steps.{standsIf, raiseS, raiseN, raiseE, levelR, levelV, stepped, tableFile, fileStep}
+use Rattle.protocol.specs.Steps.{standsIf, raiseS, raiseN, raiseE, putR, putV, stepped, tableFile, fileStep}
 use Rattle.protocol.specs.Point.{marksTo, marksOf}
 use Rattle.protocol.specs.Truncate.{pointsOf}
 use Rattle.protocol.specs.Recover.{afterVersion, allVisible, afterR, afterV, recoverNumber, inService, recoverStep, recoverDue}
@@ -153,7 +153,7 @@ module _ (key : List ℕ) where
   r-due x d l false false h f eb eq = let z = ltb-false (suc l) lanes eb in record { caught = f .caught; r-is-w = λ k lt. f .r-is-w k (omega arith); v-is-w = f .v-is-w; e-room = f .e-room }
 
   keep-R : (c : State) (d : Durable) → Durably (At c d) → c .phase ≡ F.Recovering → (l : ℕ) → Recovering key c (At c d) (D.Recover (G.Number (M.R l))) → GoodAnswer key (At c d) none (stepped c (recoverNumber (c .vault) (M.R l)))
-  unfolding recoverNumber levelR afterR allVisible
+  unfolding recoverNumber putR afterR allVisible
   keep-R c d i e l r =
       let h = r .stored .0 in
       let a = r .stored .1 in
@@ -207,7 +207,7 @@ module _ (key : List ℕ) where
   v-due x d l false h f eb = let z = ltb-false (suc l) lanes eb in record { caught = f .caught; r-is-w = f .r-is-w; v-is-w = λ k lt. f .v-is-w k (omega arith); e-room = f .e-room }
 
   keep-V : (c : State) (d : Durable) → Durably (At c d) → c .phase ≡ F.Recovering → (l : ℕ) → Recovering key c (At c d) (D.Recover (G.Number (M.V l))) → GoodAnswer key (At c d) none (stepped c (recoverNumber (c .vault) (M.V l)))
-  unfolding recoverNumber levelV afterV
+  unfolding recoverNumber putV afterV
   keep-V c d i e l r =
       let h = r .stored .0 in
       let a = r .stored .1 in

@@ -15,6 +15,7 @@ use Rattle.octets.specs.Lists.{at}
 use Rattle.table.specs.Table.{lanes}
 use Rattle.protocol.specs.Vaults.{setR}
 use Rattle.protocol.specs.States.{listed, withVault, withPoints}
+use Rattle.protocol.specs.Steps.{putR}
 use Rattle.protocol.specs.Point.{marksOf}
 use Rattle.protocol.specs.Truncate.{pointsOf, findPoint, pointsAbove, droppedTo, afterTruncateR, truncateLane, uncovered, truncateFirst, truncateNext, truncateDelete, truncateStep, truncateDue, truncate}
 use Rattle.protocol.specs.declared.Point.{Point}
@@ -31,7 +32,7 @@ use Rattle.protocol.proofs.Card.{Spot, spotsFrom, cnt, cnt-from, from-f
 use Rattle.protocol.proofs.Listed.{dropped-points, dropped-length}
 use Rattle.protocol.proofs.Invariant.{Durable, quiet, Durably, Arrays, Service, Serving, ServingAt, Crowd, Ascending, Cutting, LinkedAt, Good, GoodAnswer, At, markOf, floorOf, nextOf}
 use Rattle.protocol.proofs.StoreLaws.{Up, up-set, lanes-r, book-r, files-r, card-r}
-use Rattle.protocol.proofs.KeepRecover.{good-refuse}
+use Rattle.protocol.proofs.KeepRecover.{good-refuse, good-step}
 use Rattle.protocol.proofs.Phases.{card-of, link-serving, when-serving}
 
 -- what findPoint found
@@ -248,21 +249,21 @@ module _ (key : List ℕ) where
           let b : at (c .vault .w) l ≡ 0 = List·getD-eq-default (c .vault .w) 0 (let z : length (c .vault .w) ≤ l = omega (arith, i .lanes .wlen) in z) in omega arith
 
   keep-lane : (c : State) (d : Durable) (pos j : ℕ) (p : Point) → Durably (At c d) → c .phase ≡ F.Serving → ServingAt c d (d .spots) → c .key ≡ key → Arrays (c .journal) (c .points) → Full (d .book) (c .table)
-      → findPoint pos (pointsOf (c .points)) ≡ some p → Cutting c (At c d) j pos → j < lanes → GoodAnswer key (At c d) none (truncateLane c pos j p)
-  unfolding truncateLane
-  keep-lane c d pos j p i e sv ky ar t f k h = (quiet, lane-good c d pos j p i e sv ky ar t k f h)
+      → findPoint pos (pointsOf (c .points)) ≡ some p → Cutting c (At c d) j pos → GoodAnswer key (At c d) none (truncateLane c pos j p)
+  unfolding truncateLane putR
+  keep-lane c d pos j p i e sv ky ar t f k = good-step key _ none c (leb lanes j) _ _ _ _ (λ r. (quiet, lane-good c d pos j p i e sv ky ar t k f (leb-false lanes j r)))
 
   keep-first : (c : State) (d : Durable) (pos : ℕ) (o : Option Point) → Durably (At c d) → c .phase ≡ F.Serving → Service key c (At c d) D.Nothing → findPoint pos (pointsOf (c .points)) ≡ o → GoodAnswer key (At c d) none (truncateFirst c pos o)
   unfolding truncateFirst
   keep-first c d pos none i e s f = tt
   keep-first c d pos (some p) i e s f = good-refuse key _ none _ c 14 [] _ (λ r. let cv = is-covered p r in
       keep-lane c d pos 0 p i e (s .common) (s .key-is) (s .arrays) (s .table) f
-      (record { stale = s .stored .0; at-point = p; found = f; covered = cv; did = λ l lt. absurd (omega arith); left = λ l ge. s .stored .1 l }) (omega arith))
+      (record { stale = s .stored .0; at-point = p; found = f; covered = cv; did = λ l lt. absurd (omega arith); left = λ l ge. s .stored .1 l }))
 
   keep-next : (c : State) (d : Durable) (pos lane : ℕ) (o : Option Point) → Durably (At c d) → c .phase ≡ F.Serving → Service key c (At c d) (D.Truncate pos (L.R lane)) → findPoint pos (pointsOf (c .points)) ≡ o → GoodAnswer key (At c d) none (truncateNext c pos lane o)
   unfolding truncateNext
   keep-next c d pos lane none i e s f = tt
-  keep-next c d pos lane (some p) i e s f = good-refuse key _ none (leb lanes lane) c 1 [] _ (λ r. keep-lane c d pos lane p i e (s .common) (s .key-is) (s .arrays) (s .table) f (s .stored) (leb-false lanes lane r))
+  keep-next c d pos lane (some p) i e s f = keep-lane c d pos lane p i e (s .common) (s .key-is) (s .arrays) (s .table) f (s .stored)
 
   keep-step : (c : State) (d : Durable) (pos : ℕ) (step : TruncateStep) → Durably (At c d) → c .phase ≡ F.Serving → Service key c (At c d) (D.Truncate pos step) → GoodAnswer key (At c d) none (truncateStep c pos step)
   unfolding truncateStep truncateDelete

@@ -4,7 +4,7 @@
 -- Basis: what the theorem takes from the layers below. Lanes: an array of lanes. Latest: the latest reading over a set of records.
 -- BookLaws: the book's table. MissingLaws: lanes that have not reached V. Hostile: reading any log. LaidLaws, Card, Faith: reading the log of
 -- a card that kept faith. SheetLaws: the bench sheet.
--- Invariant: what holds of every list. StoreLaws: how each invariant takes each store. Listed, Phases: the state's lists, its phase.
+-- Invariant: what holds of every list. StoreLaws: how each invariant takes each store. DueLaws: tests of the phase and the due store. Listed, Phases: the state's lists, its tie in service.
 -- KeepRecover, KeepCold, KeepAccept, KeepPoint, KeepCheckpoint, KeepTruncate: each call keeps the invariants. Apart: bytes and what they hold.
 -- Runs: every list keeps the invariants. ServiceLaws: what 01 says of a collector in service, after any list. Theorem: demand 3. WorkedLaws: of a worked list, an honest card is taken and hostile ones are refused; another has every call, both kinds of cut and a broken recovery.
 pub mod BlankLaws
@@ -28,6 +28,7 @@ pub mod Faith
 pub mod Invariant
 pub mod StoreLaws
 pub mod Listed
+pub mod DueLaws
 pub mod KeepRecover
 pub mod KeepCold
 pub mod Phases

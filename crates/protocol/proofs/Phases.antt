@@ -1,4 +1,4 @@
--- What a test of the phase or of the due store says, and the tie of a state in service.
+-- The tie of a state in service.
 -- Assumes nothing.
 use Prim.Native.Nat.{ℕ, _+_}
 use mathlib.Core.Path.{_≡_, refl, sym, subst, subst₂, _∙_}
@@ -20,28 +20,10 @@ use Rattle.protocol.specs.declared.Phase.{Phase}
 use Rattle.protocol.specs.declared.Phase.the-variants as F
 use Rattle.protocol.specs.declared.Due.{Due}
 use Rattle.protocol.specs.declared.Due.the-variants as D
+use Rattle.protocol.proofs.DueLaws.{is-nothing, is-serving}
 use Rattle.protocol.proofs.Latest.{In}
 use Rattle.protocol.proofs.Card.{Spot, cnt}
 use Rattle.protocol.proofs.Invariant.{Durable, SpotIn, Lanes, Carded, Serving, Service, LinkedAt, Linked}
-
-pub is-nothing : (du : Due) → isNothing du ≡ true → du ≡ D.Nothing
-is-nothing D.Nothing e = refl
-is-nothing D.Record e = clash (sym e)
-is-nothing (D.Checkpoint step) e = clash (sym e)
-is-nothing (D.Truncate position step) e = clash (sym e)
-is-nothing (D.Recover step) e = clash (sym e)
-
-pub is-record : (du : Due) → isRecord du ≡ true → du ≡ D.Record
-is-record D.Record e = refl
-is-record D.Nothing e = clash (sym e)
-is-record (D.Checkpoint step) e = clash (sym e)
-is-record (D.Truncate position step) e = clash (sym e)
-is-record (D.Recover step) e = clash (sym e)
-
-pub is-serving : (ph : Phase) → serving ph ≡ true → ph ≡ F.Serving
-is-serving F.Serving e = refl
-is-serving F.Cold e = clash (sym e)
-is-serving F.Recovering e = clash (sym e)
 
 -- the card's records from what is known in service
 pub card-of : {w v r : List ℕ} {s : ℕ} {ms : List Mark} {ps : List Point} {fl nx : ℕ} {b : List Opened} {fs : List OpenedFile} {cs : List Spot} (sealed : List Opened)

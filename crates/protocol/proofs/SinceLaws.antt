@@ -31,7 +31,7 @@ use Rattle.protocol.specs.declared.Phase.the-variants as F
 use Rattle.sealed.specs.Record.{Opened}
 use Rattle.protocol.proofs.Walks.{walk-load, walk-accept, walk-seal, walk-commit, walk-point, walk-checkpoint, walk-truncate, walk-recover}
 use Rattle.protocol.proofs.Listed.{upto-length, upto-set, marks-journal, journal-lengths, map-snoc}
-use Rattle.protocol.proofs.Phases.{is-serving}
+use Rattle.protocol.proofs.DueLaws.{is-serving}
 
 -- ---- positions
 

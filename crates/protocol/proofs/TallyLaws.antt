@@ -22,7 +22,7 @@ use Rattle.sealed.specs.Checkpoint.{fileLen, fileBytes}
 use Rattle.protocol.specs.Vaults.{counterMax, setV, setR, setE, setS, setN}
 use Rattle.protocol.specs.States.{listed, pointsMax, valid, isNothing, withVault, withPoints}
 use Rattle.protocol.specs.Said.{Answered, taking, refuse}
-use Rattle.protocol.specs.Steps.{standsIf, raiseS, raiseN, raiseE, levelR, levelV, stepped, tableFile, fileStep}
+use Rattle.protocol.specs.Steps.{standsIf, raiseS, raiseN, raiseE, putR, putV, stepped, tableFile, fileStep}
 use Rattle.protocol.specs.Checkpoint.{checkpointed, checkpointFirst, checkpointLast, checkpointStep, checkpointDue, checkpoint}
 use Rattle.protocol.specs.Replay.{Read, stopped, reading}
 use Rattle.protocol.specs.Recover.{spent, recovered, recoverRead, recoverFirst, afterVersion, allVisible, afterR, afterV, recoverNumber, inService, recoverStep, recoverDue, recoverPhase, recover}
@@ -122,7 +122,7 @@ module _ (b : State) (listing : b .journal .count ≤ listed) (pointing : b .poi
   go-seal x f h = goes x (D.Recover (G.Number M.N)) f ∙ rw (lt-leb counterMax (x .n) h)
 
   go-r : (x : Vault) (l : ℕ) → VaultFine x → l < lanes → op (going x (D.Recover (G.Number (M.R l)))) ≡ taking (going (setR x l (at (x .w) l)) (afterR x l)) (storeR x l) []
-  unfolding recoverDue recoverStep recoverNumber levelR standsIf stepped refuse
+  unfolding recoverDue recoverStep recoverNumber putR standsIf stepped refuse
   go-r x l f h = goes x (D.Recover (G.Number (M.R l))) f ∙ rw (lt-leb lanes l h)
 
   go-epoch : (x : Vault) → VaultFine x → x .e < counterMax → op (going x (D.Recover (G.Number M.E))) ≡ taking (going (setE x (suc (x .e))) (D.Recover (G.Number (M.V 0)))) (S.E (suc (x .e))) []
@@ -130,7 +130,7 @@ module _ (b : State) (listing : b .journal .count ≤ listed) (pointing : b .poi
   go-epoch x f h = goes x (D.Recover (G.Number M.E)) f ∙ rw (lt-leb counterMax (x .e) h)
 
   go-v : (x : Vault) (l : ℕ) → VaultFine x → l < lanes → op (going x (D.Recover (G.Number (M.V l)))) ≡ taking (going (setV x l (at (x .w) l)) (afterV l)) (storeV x l) []
-  unfolding recoverDue recoverStep recoverNumber levelV standsIf stepped refuse
+  unfolding recoverDue recoverStep recoverNumber putV standsIf stepped refuse
   go-v x l f h = goes x (D.Recover (G.Number (M.V l))) f ∙ rw (lt-leb lanes l h)
 
   go-empty : (x : Vault) → VaultFine x → op (going x (D.Recover G.Empty)) ≡ taking (inService (going x (D.Recover G.Empty))) S.Empty []
@@ -288,12 +288,12 @@ module _ (c : State) (position : ℕ) (p : Point) (found : findPoint position (p
 
   cut-r : (x : Vault) (l : ℕ) → VaultFine x → l < lanes
       → cut (withVault c x (D.Truncate position (L.R l))) ≡ taking (withVault c (setR x l (at (p .counts) l)) (afterTruncateR l position)) (storeCount l) []
-  unfolding truncateDue truncateStep truncateDelete truncateNext truncateLane refuse
+  unfolding truncateDue truncateStep truncateDelete truncateNext truncateLane putR standsIf stepped refuse
   cut-r x l f h = cuts x (D.Truncate position (L.R l)) f ∙ rw (eq-eqb position position refl, found, lt-leb lanes l h)
 
   cut-first : (x : Vault) → VaultFine x → p .covered ≡ true
       → cut (withVault c x D.Nothing) ≡ taking (withVault c (setR x 0 (at (p .counts) 0)) (D.Truncate position (L.R 1))) (storeCount 0) []
-  unfolding truncateDue truncateFirst uncovered truncateLane afterTruncateR refuse
+  unfolding truncateDue truncateFirst uncovered truncateLane putR standsIf stepped afterTruncateR refuse
   cut-first x f h = cuts x D.Nothing f ∙ rw (found, h)
 
   names-delete : (x : Vault) → OnlyR (c .vault) x → VaultFine x → Names cut (withVault c x (D.Truncate position L.Delete)) (S.Delete (p .position) ∷ []) (Cut c position)

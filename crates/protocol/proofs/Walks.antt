@@ -19,7 +19,7 @@ use Rattle.sealed.specs.Record.{Opened}
 use Rattle.protocol.specs.Vaults.{counterMax}
 use Rattle.protocol.specs.States.{listed, pointsMax, ready, withVault, withPoints}
 use Rattle.protocol.specs.Said.{Said, refused, Answered, refusing, taking, refuse}
-use Rattle.protocol.specs.Steps.{standsIf, raiseS, raiseN, raiseE, levelR, levelV, stepped, fileStep}
+use Rattle.protocol.specs.Steps.{standsIf, raiseS, raiseN, raiseE, putR, putV, stepped, fileStep}
 use Rattle.protocol.specs.Load.{keyLen, loaded, blank, load}
 use Rattle.protocol.specs.Accept.{tooLow, accepted, accept, heldRecord, seal}
 use Rattle.protocol.specs.Commit.{committed, commitOpened, commit}
@@ -109,8 +109,8 @@ module _ (P : Answered → Type 0) (c : State) (down : (n : ℕ) (vs : List ℕ)
     walk-checkpoint room h = past _ 1 [] _ refl (λ v. checkpoint-due room (c .due) h)
 
     lane-r : (position lane : ℕ) (p : Point) → P (truncateLane c position lane p)
-    unfolding truncateLane
-    lane-r position lane p = stored _ _ _ _
+    unfolding truncateLane putR
+    lane-r position lane p = step _ _ _ _ _
 
     truncate-first : (position : ℕ) (o : Option Point) → P (truncateFirst c position o)
     unfolding truncateFirst
@@ -120,7 +120,7 @@ module _ (P : Answered → Type 0) (c : State) (down : (n : ℕ) (vs : List ℕ)
     truncate-next : (position lane : ℕ) (o : Option Point) → P (truncateNext c position lane o)
     unfolding truncateNext
     truncate-next position lane none = down 1 [] refl
-    truncate-next position lane (some p) = past _ 1 [] _ refl (λ l. lane-r position lane p)
+    truncate-next position lane (some p) = lane-r position lane p
 
     truncate-step : (position : ℕ) (s : TruncateStep) → P (taking (withPoints c (droppedTo (c .points) position) D.Nothing) (S.Delete position) []) → P (truncateStep c position s)
     unfolding truncateStep truncateDelete
@@ -141,7 +141,7 @@ module _ (P : Answered → Type 0) (c : State) (down : (n : ℕ) (vs : List ℕ)
 
     -- Recover: the calls that go on
     recover-number : (n : RecoverNumber) → P (stepped c (recoverNumber (c .vault) n))
-    unfolding recoverNumber raiseS raiseN raiseE levelR levelV
+    unfolding recoverNumber raiseS raiseN raiseE putR putV
     recover-number (M.S b) = step _ _ _ _ _
     recover-number M.N = step _ _ _ _ _
     recover-number (M.R l) = step _ _ _ _ _

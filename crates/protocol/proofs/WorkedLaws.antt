@@ -37,7 +37,7 @@ use Rattle.protocol.specs.Load.{loaded, load}
 use Rattle.protocol.specs.Accept.{tooLow, listedMore, holding, accepted, accept, heldRecord, holds, seal}
 use Rattle.protocol.specs.Commit.{committed, commitOpened, commit, outOfTurn}
 use Rattle.protocol.specs.Point.{marksTo, marksOf, marksFrom, laneCount, unseenBelow, journalOf, countsAt, pointAt, pointsMore, pointed, point}
-use Rattle.protocol.specs.Steps.{standsIf, raiseS, raiseN, raiseE, levelR, levelV, stepped, tableFile, fileStep}
+use Rattle.protocol.specs.Steps.{standsIf, raiseS, raiseN, raiseE, putR, putV, stepped, tableFile, fileStep}
 use Rattle.protocol.specs.Checkpoint.{coveredPoint, coveredPoints, checkpointed, checkpointFirst, checkpointLast, checkpointStep, checkpointDue, checkpoint}
 use Rattle.protocol.specs.Truncate.{pointsOf, findPoint, pointsAbove, droppedTo, afterTruncateR, truncateLane, uncovered, truncateFirst, truncateNext, truncateDelete, truncateStep, truncateDue, truncate}
 use Rattle.protocol.specs.Replay.{stopped, reading, passedOver, orStop, behind, stepOpened, steps, missingFrom, orMissing, ended, replay}
@@ -264,7 +264,7 @@ module _ (key : List ℕ) where
 
   -- fifteen calls: N, a file, S; the same three again; R of the eight lanes; the log is emptied
   go-recovering : Goes newOne recovering (replicate 15 0) begun
-  unfolding run shownBy shownAt number newOne begun newLasting newVault loaded next answer answerOf addsOf afterAnswer afterSaid done cardAfter vaultAfter bookAfter withSealings sealedBy recover recoverPhase recoverFirst readFrom orStop recoverRead recovered recoverDue recoverStep recoverNumber raiseS raiseN raiseE levelR levelV standsIf stepped fileStep refuse valid vaultOk laneOk allBelow spent replay steps ended missingFrom orMissing afterVersion afterR allVisible inService tableFile
+  unfolding run shownBy shownAt number newOne begun newLasting newVault loaded next answer answerOf addsOf afterAnswer afterSaid done cardAfter vaultAfter bookAfter withSealings sealedBy recover recoverPhase recoverFirst readFrom orStop recoverRead recovered recoverDue recoverStep recoverNumber raiseS raiseN raiseE putR putV standsIf stepped fileStep refuse valid vaultOk laneOk allBelow spent replay steps ended missingFrom orMissing afterVersion afterR allVisible inService tableFile
   go-recovering =
       recovers 6 [] (midst (first (numbers 0 0 0 0 1 2) [] [] []) (S.S 2) (numbers 0 0 0 0 2 2) (D.Recover (G.Number (M.R 0))) emptyTable) (λ f e. absurd (empty-file key f e)) refl refl
       then recovers 4 [] (midst (first (numbers 0 0 0 0 2 2) [] [] []) (S.R 3 0) (numbers 0 0 0 0 2 2) (D.Recover (G.Number (M.R 4))) emptyTable) (λ f e. absurd (empty-file key f e)) refl refl
@@ -365,7 +365,7 @@ module _ (key : List ℕ) where
   go-checkpoint = times 3 (callCheckpoint fileLen) checkpointDone (λ w h. tt) tt refl refl
 
   go-truncate : Goes checkpointDone (replicate 9 (call (callTruncate 20))) (replicate 9 0) truncated
-  unfolding run shownBy shownAt number Premises Honest checkpointDone truncating truncated onePoint next answer answerOf addsOf afterAnswer afterSaid done cardAfter vaultAfter bookAfter withSealings sealedBy truncate truncateDue truncateStep truncateDelete truncateFirst truncateNext truncateLane afterTruncateR uncovered findPoint pointsOf coveredPoints coveredPoint valid vaultOk laneOk allBelow journalOf refuse
+  unfolding run shownBy shownAt number Premises Honest checkpointDone truncating truncated onePoint next answer answerOf addsOf afterAnswer afterSaid done cardAfter vaultAfter bookAfter withSealings sealedBy truncate truncateDue truncateStep truncateDelete truncateFirst truncateNext truncateLane putR standsIf stepped afterTruncateR uncovered findPoint pointsOf coveredPoints coveredPoint valid vaultOk laneOk allBelow journalOf refuse
   go-truncate =
       times 3 (callTruncate 20) (truncating (S.R 2 0) (D.Truncate 20 (L.R 3))) (λ w h. tt) tt refl refl
       then times 3 (callTruncate 20) (truncating (S.R 5 0) (D.Truncate 20 (L.R 6))) (λ w h. tt) tt refl refl
@@ -398,7 +398,7 @@ module _ (key : List ℕ) where
 
   -- the other twenty-three calls: a file, S; N, a file, S; R of the eight lanes; E; V of the eight lanes; the log is emptied
   go-completing : Goes accepting (replicate 23 (fromThird key)) (replicate 23 0) wholeWorld
-  unfolding run shownBy shownAt number cutVault accepting wholeWorld wholeVault wholeState next answer answerOf addsOf afterAnswer afterSaid done cardAfter vaultAfter bookAfter withSealings sealedBy recover recoverPhase recoverDue recoverStep recoverNumber raiseS raiseN raiseE levelR levelV standsIf stepped fileStep refuse valid vaultOk laneOk allBelow afterVersion afterR afterV allVisible inService tableFile
+  unfolding run shownBy shownAt number cutVault accepting wholeWorld wholeVault wholeState next answer answerOf addsOf afterAnswer afterSaid done cardAfter vaultAfter bookAfter withSealings sealedBy recover recoverPhase recoverDue recoverStep recoverNumber raiseS raiseN raiseE putR putV standsIf stepped fileStep refuse valid vaultOk laneOk allBelow afterVersion afterR afterV allVisible inService tableFile
   go-completing =
       recovers 5 (thirdFile key) (midst (fifth (numbers 2 1 1 0 4 5)) (S.S 5) (numbers 2 1 1 0 5 5) (D.Recover (G.Number (M.R 0))) oneReading) (λ f e. List·Memᴰ·head refl) refl refl
       then recovers 4 (thirdFile key) (midst (fifth (numbers 2 1 2 0 5 5)) (S.R 3 0) (numbers 2 1 2 0 5 5) (D.Recover (G.Number (M.R 4))) oneReading) (λ f e. third-out) refl refl

@@ -19,7 +19,7 @@ use Rattle.sealed.specs.Checkpoint.{OpenedFile, openFile}
 use Rattle.protocol.specs.Vaults.{counterMax, setN}
 use Rattle.protocol.specs.States.{noJournal, noPoints, valid, isNothing}
 use Rattle.protocol.specs.Said.{Answered, refuse, refusing, taking}
-use Rattle.protocol.specs.Steps.{raiseS, raiseN, raiseE, levelR, levelV, stepped, fileStep}
+use Rattle.protocol.specs.Steps.{raiseS, raiseN, raiseE, putR, putV, stepped, fileStep}
 use Rattle.protocol.specs.Replay.{Read, stopped, reading, orStop, replay}
 use Rattle.protocol.specs.declared.Vault.{Vault}
 use Rattle.protocol.specs.declared.State.{State}
@@ -100,9 +100,9 @@ afterV lane = D.Recover (cond (ltb (suc lane) lanes) (G.Number (M.V (suc lane)))
 unfoldable pub recoverNumber : Vault → RecoverNumber → Step
 recoverNumber x (M.S second) = raiseS x (afterVersion second)
 recoverNumber x M.N = raiseN x (D.Recover (G.File true))
-recoverNumber x (M.R lane) = levelR x lane (afterR x lane)
+recoverNumber x (M.R lane) = putR x lane (at (x .w) lane) (afterR x lane)
 recoverNumber x M.E = raiseE x (D.Recover (G.Number (M.V 0)))
-recoverNumber x (M.V lane) = levelV x lane (afterV lane)
+recoverNumber x (M.V lane) = putV x lane (at (x .w) lane) (afterV lane)
 
 unfoldable pub inService : State → State
 inService c = record {

@@ -1,13 +1,13 @@
 -- One store of an operation that takes several: what it needs, what it names, and what is due behind it.
 -- 01, Operations, Checkpoint: "stores N + 1, the file of the whole table with version S + 1 and the raised N as seal number, then S + 1"; Recover:
--- "N, checkpoint S + 1, S; the same three again; R = W for lanes 0 to 7; if any W ≠ V, also E + 1 and V = W for lanes 0 to 7".
+-- "N, checkpoint S + 1, S; the same three again; R = W for lanes 0 to 7; if any W ≠ V, also E + 1 and V = W for lanes 0 to 7"; Truncate: "R of
+-- lanes 0 to 7 from the point's counts".
 -- A number at the maximum already, or a lane above 7, is turned down with 1: no call left such a state.
 -- Assumes nothing.
 use Prim.Native.Nat.{ℕ, suc}
 use mathlib.Core.Bool.{Bool, true, false, not}
 use mathlib.Core.List.{List, [], _∷_}
 use lib.Dec.{leb, ltb}
-use Rattle.octets.specs.Lists.{at}
 use Rattle.table.specs.Table.{lanes}
 use Rattle.sealed.specs.Aead.{aesGcm}
 use Rattle.sealed.specs.Checkpoint.{fileLen, fileBytes}
@@ -38,12 +38,12 @@ raiseN x next = standsIf (leb counterMax (x .n)) x (setN x (suc (x .n))) next (S
 unfoldable pub raiseE : Vault → Due → Step
 raiseE x next = standsIf (leb counterMax (x .e)) x (setE x (suc (x .e))) next (S.E (suc (x .e)))
 
--- R = W and V = W of a lane
-unfoldable pub levelR : Vault → ℕ → Due → Step
-levelR x lane next = standsIf (leb lanes lane) x (setR x lane (at (x .w) lane)) next (S.R lane (at (x .w) lane))
+-- R and V of a lane; Recover's are W
+unfoldable pub putR : Vault → ℕ → ℕ → Due → Step
+putR x lane value next = standsIf (leb lanes lane) x (setR x lane value) next (S.R lane value)
 
-unfoldable pub levelV : Vault → ℕ → Due → Step
-levelV x lane next = standsIf (leb lanes lane) x (setV x lane (at (x .w) lane)) next (S.V lane (at (x .w) lane))
+unfoldable pub putV : Vault → ℕ → ℕ → Due → Step
+putV x lane value next = standsIf (leb lanes lane) x (setV x lane value) next (S.V lane value)
 
 -- what a call then answers
 unfoldable pub stepped : State → Step → Answered

@@ -5,13 +5,13 @@ use Prim.Native.Nat.{ℕ, suc, _-_}
 use mathlib.Core.Bool.{Bool, cond, not, _&&_}
 use mathlib.Core.List.{List, [], _∷_, _++_}
 use mathlib.Core.Option.{Option, some, none}
-use lib.Dec.{leb, ltb, eqb}
+use lib.Dec.{ltb, eqb}
 use lib.ListN.{length, take, replicate}
 use Rattle.octets.specs.Lists.{at}
 use Rattle.table.specs.Table.{lanes}
-use Rattle.protocol.specs.Vaults.{setR}
-use Rattle.protocol.specs.States.{pointsMax, noPoint, valid, serving, withVault, withPoints}
+use Rattle.protocol.specs.States.{pointsMax, noPoint, valid, serving, withPoints}
 use Rattle.protocol.specs.Said.{Answered, refuse, refusing, taking}
+use Rattle.protocol.specs.Steps.{putR, stepped}
 use Rattle.protocol.specs.declared.Point.{Point}
 use Rattle.protocol.specs.declared.Points.{Points}
 use Rattle.protocol.specs.declared.State.{State}
@@ -47,7 +47,7 @@ afterTruncateR lane position = D.Truncate position (cond (ltb (suc lane) lanes) 
 
 unfoldable pub truncateLane : State → ℕ → ℕ → Point → Answered
 truncateLane c position lane p =
-    taking (withVault c (setR (c .vault) lane (at (p .counts) lane)) (afterTruncateR lane position)) (S.R lane (at (p .counts) lane)) []
+    stepped c (putR (c .vault) lane (at (p .counts) lane) (afterTruncateR lane position))
 
 -- no checkpoint covers the point
 unfoldable pub uncovered : Point → Bool
@@ -60,7 +60,7 @@ truncateFirst c position (some p) = refuse (uncovered p) c 14 [] (truncateLane c
 -- a continuing call names the due store: at another position, or where its point or lane is none, it is turned down
 unfoldable pub truncateNext : State → ℕ → ℕ → Option Point → Answered
 truncateNext c position lane none = refusing c 1 []
-truncateNext c position lane (some p) = refuse (leb lanes lane) c 1 [] (truncateLane c position lane p)
+truncateNext c position lane (some p) = truncateLane c position lane p
 
 -- the deletion, with the points above the position
 unfoldable pub truncateDelete : State → ℕ → Answered

@@ -96,16 +96,18 @@ pub fn number_step(x: Vault, number: RecoverNumber) -> Step
             steps::raise_n(x, next)
         }
         RecoverNumber::R { lane } => {
+            let value = vault::w_at(x, lane);
             let next = after_r(x, lane);
-            steps::level_r(x, lane, next)
+            steps::put_r(x, lane, value, next)
         }
         RecoverNumber::E => {
             let next = number_due(RecoverNumber::V { lane: 0 });
             steps::raise_e(x, next)
         }
         RecoverNumber::V { lane } => {
+            let value = vault::w_at(x, lane);
             let next = after_v(lane);
-            steps::level_v(x, lane, next)
+            steps::put_v(x, lane, value, next)
         }
     }
 }

@@ -1,5 +1,5 @@
 // One store of an operation that takes several (01, Operations): a vault number, or a checkpoint's file. Each is told
-// which store is due behind it. Checkpoint and Recover are made of these.
+// which store is due behind it. Checkpoint, Truncate and Recover are made of these.
 ghost use mathlib.Core.Path.{_≡_};
 ghost use mathlib.Core.List.{[]};
 ghost use lib.ListN.{length};
@@ -7,7 +7,7 @@ ghost use Rattle.octets.specs.Lists.{putOver};
 ghost use Rattle.sealed.specs.Aead.{aesGcm};
 ghost use Rattle.sealed.specs.Checkpoint.{fileBytes, fileAnswer, filePut};
 ghost use Rattle.protocol.specs.Said.{shownAs};
-ghost use Rattle.protocol.specs.Steps.{raiseS, raiseN, raiseE, levelR, levelV, stepped, fileStep};
+ghost use Rattle.protocol.specs.Steps.{raiseS, raiseN, raiseE, putR, putV, stepped, fileStep};
 use protocol::Answer;
 use protocol::Due;
 use protocol::Refusal;
@@ -90,9 +90,9 @@ pub fn raise_e(x: Vault, next: Due) -> Step
     }
 }
 
-// R = W of a lane; not where there is no such lane.
-pub fn level_r(x: Vault, lane: u8, next: Due) -> Step
-    ensures { λ r. ⌜ r ≡ levelR x lane next ⌝ }
+// R of a lane; not where there is no such lane.
+pub fn put_r(x: Vault, lane: u8, value: u64, next: Due) -> Step
+    ensures { λ r. ⌜ r ≡ putR x lane value next ⌝ }
 {
     if LANES <= lane {
         return Step {
@@ -102,7 +102,6 @@ pub fn level_r(x: Vault, lane: u8, next: Due) -> Step
             store: Store::Nothing,
         };
     }
-    let value = vault::w_at(x, lane);
     let raised = vault::set_r(x, lane, value);
     Step {
         goes: true,
@@ -112,9 +111,9 @@ pub fn level_r(x: Vault, lane: u8, next: Due) -> Step
     }
 }
 
-// V = W of a lane; not where there is no such lane.
-pub fn level_v(x: Vault, lane: u8, next: Due) -> Step
-    ensures { λ r. ⌜ r ≡ levelV x lane next ⌝ }
+// V of a lane; not where there is no such lane.
+pub fn put_v(x: Vault, lane: u8, value: u64, next: Due) -> Step
+    ensures { λ r. ⌜ r ≡ putV x lane value next ⌝ }
 {
     if LANES <= lane {
         return Step {
@@ -124,7 +123,6 @@ pub fn level_v(x: Vault, lane: u8, next: Due) -> Step
             store: Store::Nothing,
         };
     }
-    let value = vault::w_at(x, lane);
     let raised = vault::set_v(x, lane, value);
     Step {
         goes: true,

@@ -3,25 +3,30 @@
 use Prim.Native.Nat.{ℕ, suc, _+_, _≤_, _<_}
 use mathlib.Core.Path.{_≡_, refl}
 use mathlib.Core.Bool.{Bool, true, false, not, _&&_, _||_}
-use mathlib.Core.List.{[]}
+use mathlib.Core.List.{[], _∷_}
 use mathlib.Core.Option.{Option, some, none}
+use types.Run.{OneOf, miss}
+use denote.Enum.Declared.{tagOf}
 use lib.Dec.{leb}
 use native.Mathlib.Omega.{arith}
 use borrow.Author.Tests.{lt-ltb, le-ltb, eq-eqb, ne-eqb}
 use Rattle.octets.specs.Lists.{at}
 use Rattle.table.specs.Table.{lanes}
+use Rattle.table.proofs.OrderLaws.{clash}
 use Rattle.protocol.specs.Vaults.{setR}
-use Rattle.protocol.specs.States.{valid, serving, withVault, validBy}
+use Rattle.protocol.specs.States.{valid, serving, isNothing, withVault, validBy}
 use Rattle.protocol.specs.Said.{refuse, shownAs, shown, numberOf, valuesOf, refusedWith, takenWith}
+use Rattle.protocol.specs.Steps.{putR, stepped}
 use Rattle.protocol.specs.Truncate.{pointsOf, findPoint, afterTruncateR, truncateLane, uncovered, truncateFirst, truncateNext, truncateDelete, truncateStep, truncateDue, truncate}
 use Rattle.protocol.specs.declared.Vault.{Vault}
 use Rattle.protocol.specs.declared.Point.{Point}
 use Rattle.protocol.specs.declared.State.{State}
+use Rattle.protocol.proofs.Due as due
 use Rattle.protocol.specs.declared.Due.{Due}
 use Rattle.protocol.specs.declared.Due.the-variants as D
 use Rattle.protocol.specs.declared.TruncateStep.{TruncateStep}
 use Rattle.protocol.specs.declared.TruncateStep.the-variants as L
-use Rattle.protocol.specs.declared.Store.the-variants as S
+use Rattle.protocol.specs.declared.Step.{Step}
 use Rattle.protocol.specs.declared.Refusal.the-variants as R
 use Rattle.journal.specs.Beyond.{shownPoint}
 use Rattle.journal.specs.declared.points.PointFound.{PointFound}
@@ -38,11 +43,10 @@ pub after-last : (lane position : ℕ) → 7 ≤ lane → D.Truncate position L.
 unfolding afterTruncateR
 after-last lane position h = rw (le-ltb (suc lane) lanes (omega arith))
 
--- k is the point's count, x the vault with it, and d the store behind it
-pub lane-made : (c : State) (position lane : ℕ) (q : Point) {k : ℕ} {x : Vault} {d : Due} → k ≡ at (q .counts) lane → x ≡ setR (c .vault) lane k → d ≡ afterTruncateR lane position
-    → shownAs (takenWith (withVault c x d) (S.R lane k) 0) [] ≡ truncateLane c position lane q
-unfolding truncateLane shownAs shown
-lane-made c position lane q ek ex ed = rw (ed, ex, ek)
+-- s is the step of it
+pub lane-stepped : (c : State) (position lane : ℕ) (q : Point) {s : Step} → s ≡ putR (c .vault) lane (at (q .counts) lane) (afterTruncateR lane position) → stepped c s ≡ truncateLane c position lane q
+unfolding truncateLane
+lane-stepped c position lane q e = rw e
 
 -- ---- by the store that is due
 
@@ -56,7 +60,7 @@ module _ (c : State) (position : ℕ) where
   first-by none = refl
   first-by (some p) = refl
 
-  next-by : (lane : ℕ) (o : Option Point) → truncateNext c position lane o ≡ refuse (not (shownPoint o .found) || leb lanes lane) c 1 [] (truncateLane c position lane (shownPoint o .point))
+  next-by : (lane : ℕ) (o : Option Point) → truncateNext c position lane o ≡ refuse (not (shownPoint o .found)) c 1 [] (truncateLane c position lane (shownPoint o .point))
   unfolding truncateNext shownPoint refuse
   next-by lane none = refl
   next-by lane (some p) = refl
@@ -67,7 +71,7 @@ module _ (c : State) (position : ℕ) where
     unfolding truncateDue
     first-is = rw ef (first-by (findPoint position (pointsOf (c .points))))
 
-    next-is : (lane : ℕ) → truncateStep c position (L.R lane) ≡ refuse (not (f .found) || leb lanes lane) c 1 [] (truncateLane c position lane (f .point))
+    next-is : (lane : ℕ) → truncateStep c position (L.R lane) ≡ refuse (not (f .found)) c 1 [] (truncateLane c position lane (f .point))
     unfolding truncateStep
     next-is lane = rw ef (next-by lane (findPoint position (pointsOf (c .points))))
 
@@ -80,13 +84,13 @@ module _ (c : State) (position : ℕ) where
     unfolding refuse
     first-taken covered = rw (first-is, covered)
 
-    -- R of a lane is due: no point or lane, and R of it
+    -- R of a lane is due: no point, and R of it
     module _ {step : TruncateStep} {lane : ℕ} (told : step ≡ L.R lane) where
-      pub next-off : not (f .found) || leb lanes lane ≡ true → shownAs (refusedWith c R.Condition) [] ≡ truncateStep c position step
+      pub next-off : not (f .found) ≡ true → shownAs (refusedWith c R.Condition) [] ≡ truncateStep c position step
       unfolding refuse shownAs shown numberOf valuesOf
       next-off turned = rw (told, next-is lane, turned)
 
-      pub next-taken : not (f .found) || leb lanes lane ≡ false → truncateLane c position lane (f .point) ≡ truncateStep c position step
+      pub next-taken : not (f .found) ≡ false → truncateLane c position lane (f .point) ≡ truncateStep c position step
       unfolding refuse
       next-taken on = rw (told, next-is lane, on)
 
@@ -104,6 +108,15 @@ module _ (c : State) (position : ℕ) where
     pub at-here : there ≡ position → truncateStep c position step ≡ truncateDue c position (D.Truncate there step)
     unfolding truncateDue refuse
     at-here here = rw (eq-eqb there position here)
+
+  -- a store of another operation is due: something is, and its tag is not Truncate's
+  pub other-due : (d : Due) → isNothing d ≡ false → OneOf (0 ∷ 1 ∷ 2 ∷ 4 ∷ []) (tagOf due.the-type d) → shownAs (refusedWith c R.Condition) [] ≡ truncateDue c position d
+  unfolding truncateDue shownAs shown numberOf valuesOf
+  other-due D.Nothing n h = clash n
+  other-due D.Record n h = refl
+  other-due (D.Checkpoint step) n h = refl
+  other-due (D.Truncate p step) n h = absurd (miss (0 ∷ 1 ∷ 2 ∷ 4 ∷ []) 3 tt h)
+  other-due (D.Recover step) n h = refl
 
   -- ---- the whole; g is whether the state is valid, s whether it is in service
 

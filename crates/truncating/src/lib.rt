@@ -3,14 +3,18 @@
 ghost use mathlib.Core.Path.{_≡_};
 ghost use mathlib.Core.List.{[]};
 ghost use Rattle.protocol.specs.Said.{shownAs};
-ghost use Rattle.protocol.specs.Truncate.{afterTruncateR, truncateLane, truncateDelete, truncate};
+ghost use Rattle.octets.specs.Lists.{at};
+ghost use Rattle.protocol.specs.Steps.{putR};
+ghost use Rattle.protocol.specs.Truncate.{afterTruncateR, truncateDelete, truncate};
 use protocol::Answer;
 use protocol::Due;
 use protocol::Point;
 use protocol::Refusal;
 use protocol::State;
+use protocol::Step;
 use protocol::Store;
 use protocol::TruncateStep;
+use protocol::Vault;
 use table::LANES;
 
 // The store that is due behind R of a lane: R of the next lane, or the deletion.
@@ -30,16 +34,14 @@ fn after_r(lane: u8, position: u64) -> Due
     }
 }
 
-// R of a lane is set to the point's count of it, and named.
-fn lane_stored(c: State, position: u64, lane: u8, q: Point) -> Answer
-    ensures { λ r. ⌜ shownAs r [] ≡ truncateLane c position lane q ⌝ }
+// R of a lane is set to the point's count of it.
+fn lane_step(x: Vault, position: u64, lane: u8, q: Point) -> Step
+    ensures { λ r. ⌜ r ≡ putR x lane (at (q .counts) lane) (afterTruncateR lane position) ⌝ }
 {
-    let x = c.vault;
     let counts = q.counts;
     let value = vault::lane_at(counts, lane);
-    let raised = vault::set_r(x, lane, value);
-    let due = after_r(lane, position);
-    state::stored(c, raised, due, Store::R { lane, value }, 0)
+    let next = after_r(lane, position);
+    steps::put_r(x, lane, value, next)
 }
 
 // The point at a position and the older ones are dropped, and the deletion of the records below it is named.
@@ -72,31 +74,28 @@ pub fn truncate(c: State, position: u64) -> Answer
     let read = journal::points::find_point(p, position);
     let q = read.point;
     let found = read.found;
-    match due {
-        Due::Nothing => {
-            let bare = !found | !q.covered;
-            if bare {
-                return state::refused(c, Refusal::Point);
-            }
-            lane_stored(c, position, 0, q)
+    if state::is_nothing(due) {
+        let bare = !found | !q.covered;
+        if bare {
+            return state::refused(c, Refusal::Point);
         }
-        Due::Truncate { position: at, step } => {
-            if at != position {
+        let set = lane_step(x, position, 0, q);
+        return steps::stepped(c, set);
+    }
+    let Due::Truncate { position: at, step } = due else {
+        return state::refused(c, Refusal::Condition);
+    };
+    if at != position {
+        return state::refused(c, Refusal::Condition);
+    }
+    match step {
+        TruncateStep::R { lane } => {
+            if !found {
                 return state::refused(c, Refusal::Condition);
             }
-            match step {
-                TruncateStep::R { lane } => {
-                    let off = !found | (LANES <= lane);
-                    if off {
-                        return state::refused(c, Refusal::Condition);
-                    }
-                    lane_stored(c, position, lane, q)
-                }
-                TruncateStep::Delete => deleted(c, position),
-            }
+            let set = lane_step(x, position, lane, q);
+            steps::stepped(c, set)
         }
-        Due::Record => state::refused(c, Refusal::Condition),
-        Due::Checkpoint { step } => state::refused(c, Refusal::Condition),
-        Due::Recover { step } => state::refused(c, Refusal::Condition),
+        TruncateStep::Delete => deleted(c, position),
     }
 }

@@ -14,7 +14,7 @@ returns-2 c = rw (c .before .enum-told .given .1, c .raise-n .ensures)
 
 returns-3 : tie.Need-returns-3
 unfolding recoverNumber
-returns-3 c = rw (c .before .before .before .number2 .given .1, c .level-r .ensures, c .before .after-r .ensures)
+returns-3 c = rw (c .before .before .before .before .number2 .given .1, c .put-r .ensures, c .before .after-r .ensures, c .before .before .w-at .ensures)
 
 returns-4 : tie.Need-returns-4
 unfolding recoverNumber
@@ -22,7 +22,7 @@ returns-4 c = rw (c .before .before .enum-told2 .given .1, c .raise-e .ensures, 
 
 returns-5 : tie.Need-returns-5
 unfolding recoverNumber
-returns-5 c = rw (c .before .before .before .number3 .given .1, c .level-v .ensures, c .before .after-v .ensures)
+returns-5 c = rw (c .before .before .before .before .number3 .given .1, c .put-v .ensures, c .before .after-v .ensures, c .before .before .w-at2 .ensures)
 
 pub number-step-spec : {M : Type 1} → statement M
 number-step-spec =
@@ -36,10 +36,12 @@ number-step-spec =
     (λ c. search needs)
     (λ c κs. search needs)
     (λ c κs. search needs)
+    (λ c κs. search needs)
     (λ c. search needs)
     (λ c κs. search needs)
     (λ c κs. search needs)
     (λ c. search needs)
+    (λ c κs. search needs)
     (λ c κs. search needs)
     (λ c κs. search needs)
     returns
