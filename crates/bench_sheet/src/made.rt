@@ -46,7 +46,7 @@ pub fn numbers(x: Vault, m: Command) -> Vault {
 // A cold one with these vault numbers.
 pub fn cold(x: Vault) -> Collector {
     let state = loading::loaded(x, KEY);
-    Collector { state }
+    Collector::of(state)
 }
 
 // One in service with these vault numbers.
@@ -66,29 +66,29 @@ pub fn serving(x: Vault) -> Collector {
         held,
         key: KEY,
     };
-    Collector { state }
+    Collector::of(state)
 }
 
 // The same that lists so many records.
 fn listing(c: Collector, count: usize) -> Collector {
-    let mut state = c.state;
+    let mut state = c.state();
     state.journal.count = count;
-    Collector { state }
+    Collector::of(state)
 }
 
 // The same that keeps so many points.
 fn keeping(c: Collector, count: usize) -> Collector {
-    let mut state = c.state;
+    let mut state = c.state();
     state.points.count = count;
-    Collector { state }
+    Collector::of(state)
 }
 
 // The same with its newest point at a position.
 fn pointing(c: Collector, newest: u64) -> Collector {
-    let mut state = c.state;
+    let mut state = c.state();
     state.points.any = true;
     state.points.newest = newest;
-    Collector { state }
+    Collector::of(state)
 }
 
 // The collector behind a command that makes or changes one.

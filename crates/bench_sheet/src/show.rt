@@ -14,7 +14,8 @@ use sealed::record::RECORD_KIND;
 
 // How many numbers of lane 0 a point counts.
 fn counts(c: Collector, position: u64) -> u64 {
-    let p = c.state.points;
+    let state = c.state();
+    let p = state.points;
     let q = journal::points::find_point(p, position);
     let point = q.point;
     let counts = point.counts;

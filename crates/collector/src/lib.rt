@@ -22,9 +22,11 @@ use protocol::Phase;
 use protocol::State;
 use protocol::Vault;
 use table::Entry;
+use table::Table;
 
+// A collector. Its state is private: others make one by Load, or of a state that they have, and ask it by its methods.
 pub struct Collector {
-    pub state: State,
+    state: State,
 }
 
 // What a call hands back.
@@ -114,7 +116,30 @@ impl Collector {
         handed_back(a)
     }
 
+    // ---- for whoever keeps or makes a state
+
+    // The collector of a state, whatever the state: the operations refuse with 1 what 01's rule does not let through.
+    pub fn of(state: State) -> Collector
+        ensures { λ r. ⌜ r .state ≡ state ⌝ }
+    {
+        Collector { state }
+    }
+
+    // Its state.
+    pub fn state(self) -> State
+        ensures { λ r. ⌜ r ≡ self .state ⌝ }
+    {
+        self.state
+    }
+
     // ---- for a host and a screen
+
+    // The latest reading of every meter.
+    pub fn table(self) -> Table
+        ensures { λ r. ⌜ r ≡ self .state .table ⌝ }
+    {
+        self.state.table
+    }
 
     // The latest reading of a meter, with its code, its stamp, and the lane and number of its transaction.
     pub fn reading(self, meter: u8) -> Entry
