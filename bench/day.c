@@ -10,12 +10,11 @@
 
 #define _POSIX_C_SOURCE 199309L
 
-#include "../include/paviluko.h"
+#include "calls.h"
 #include "cipher.h"
 #include "common.h"
 
 #include <stdio.h>
-#include <stdlib.h>
 #include <string.h>
 
 enum {
@@ -35,22 +34,6 @@ static struct cipher_key prepared;
 static paviluko_state collectors[COLLECTORS];
 static uint8_t out[PAVILUKO_CHECKPOINT_LEN], record[RECORD];
 static uint8_t card_log[FULL * RECORD], card_file[PAVILUKO_CHECKPOINT_LEN];
-
-static void check(int right, const char *what)
-{
-    if (right)
-        return;
-    fprintf(stderr, "bench: %s went wrong\n", what);
-    exit(1);
-}
-
-static void taken(paviluko_said said, const char *what)
-{
-    if (said.number == PAVILUKO_TAKEN)
-        return;
-    fprintf(stderr, "bench: %s was turned down with %d\n", what, said.number);
-    exit(1);
-}
 
 /* A transaction of 16 writes: every fourth meter from a first one, at a time of the day. */
 static void put_text(uint8_t *text, unsigned i)
@@ -73,31 +56,10 @@ static uint64_t place(unsigned i)
     return 2 * (uint64_t)i + 1;
 }
 
-/* Loads and recovers with what the card holds; the last file put out stands in `out`. */
-static unsigned start(paviluko_state *s, const paviluko_vault *x, const uint8_t *file, size_t file_len, const uint8_t *log,
-                      size_t log_len)
-{
-    unsigned calls = 0;
-    taken(paviluko_do_load(s, x, key, sizeof key), "load");
-    while (s->phase != PAVILUKO_IN_SERVICE) {
-        taken(paviluko_do_recover(s, file, file_len, log, log_len, out, sizeof out), "recover");
-        calls++;
-    }
-    return calls;
-}
-
-static void transact(paviluko_state *s, const uint8_t *text, uint8_t lane, uint64_t position, uint8_t *to)
-{
-    taken(paviluko_do_accept(s, text, TEXT, lane, position), "accept");
-    taken(paviluko_do_seal(s, to, RECORD), "seal");
-    taken(paviluko_do_commit(s, to, RECORD), "commit");
-}
-
 static void tidy(paviluko_state *s, uint64_t position)
 {
     taken(paviluko_do_point(s, position), "point");
-    for (int i = 0; i < 3; i++)
-        taken(paviluko_do_checkpoint(s, out, sizeof out), "checkpoint");
+    checkpoint(s, out);
     for (int i = 0; i < 9; i++)
         taken(paviluko_do_truncate(s, position), "truncate");
 }
@@ -111,7 +73,7 @@ static void day_of(paviluko_state *s)
         if (s->journal.count == PAVILUKO_LISTED)
             tidy(s, place(i) - 1);
         put_text(text, i);
-        transact(s, text, (uint8_t)(i % PAVILUKO_LANES), place(i), record);
+        transact(s, text, TEXT, (uint8_t)(i % PAVILUKO_LANES), place(i), record);
     }
 }
 
@@ -130,11 +92,9 @@ static void bare_day(void)
 
 static void day(void)
 {
-    paviluko_vault x;
-    memset(&x, 0, sizeof x);
     double began = worked_ns();
     for (int c = 0; c < COLLECTORS; c++) {
-        start(&collectors[c], &x, NULL, 0, NULL, 0);
+        start_new(&collectors[c], key, out);
         day_of(&collectors[c]);
     }
     double whole = worked_ns() - began;
@@ -159,24 +119,22 @@ static void bare_open(const uint8_t *r)
 static void recovery(void)
 {
     static paviluko_state s;
-    paviluko_vault x;
-    memset(&x, 0, sizeof x);
-    start(&s, &x, NULL, 0, NULL, 0);
+    start_new(&s, key, out);
     memcpy(card_file, out, sizeof card_file);
     for (unsigned i = 0; i < FULL; i++) {
         uint8_t text[TEXT];
         if (s.journal.count == PAVILUKO_LISTED)
             taken(paviluko_do_point(&s, place(i) - 1), "point");
         put_text(text, i);
-        transact(&s, text, (uint8_t)(i % PAVILUKO_LANES), place(i), card_log + (size_t)i * RECORD);
+        transact(&s, text, TEXT, (uint8_t)(i % PAVILUKO_LANES), place(i), card_log + (size_t)i * RECORD);
     }
-    x = s.vault;
+    paviluko_vault x = s.vault;
 
     double ours = 1e18, bare = 1e18;
     unsigned calls = 0;
     for (int round = 0; round < ROUNDS; round++) {
         double began = worked_ns();
-        calls = start(&s, &x, card_file, sizeof card_file, card_log, sizeof card_log);
+        calls = start(&s, &x, key, card_file, sizeof card_file, card_log, sizeof card_log, out);
         double took = worked_ns() - began;
         if (took < ours)
             ours = took;

@@ -5,11 +5,10 @@ set -eu
 
 library=target/staticlib/libtest_cipher.a
 sealed=target/staticlib/libtest_sealed.a
-collector=target/staticlib/libcollector_c.a
 boundary=target/staticlib/libpaviluko.a
 built=target/bench
 
-for each in "$library" "$sealed" "$collector" "$boundary"; do
+for each in "$library" "$sealed" "$boundary"; do
     [ -f "$each" ] || { echo "$each is missing: build it first" >&2; exit 1; }
 done
 sh tests/cipher/packages.sh gcc libc6-dev libssl-dev libmbedtls-dev libbearssl-dev \
@@ -20,7 +19,7 @@ mkdir -p "$built"
 gcc -O2 -Wall -Wextra -Werror -rdynamic -Itests/cipher -o "$built/cipher" bench/cipher.c \
     "$library" -lcrypto -lmbedcrypto -lbearssl -lnettle -lgcrypt
 gcc -O2 -Wall -Wextra -Werror -Itests/cipher -Itests/sealed -o "$built/sealed" bench/sealed.c \
-    "$collector" "$sealed" "$library"
+    "$boundary" "$sealed" "$library"
 gcc -O2 -Wall -Wextra -Werror -Itests/cipher -o "$built/day" bench/day.c "$boundary" "$library"
 gcc -O2 -Wall -Wextra -Werror -o "$built/stack" bench/stack.c "$boundary" -lpthread
 

@@ -6,21 +6,21 @@
    the boundary as its text, so a checkpoint's times hold reading that text
    before sealing, and writing it after opening.  The fifth row enters the
    transactions of a full log into a table; the cipher's time beside it is that
-   of opening them.  The last four run the collector: transactions, each
-   accepted, sealed and committed, beside sealing and opening each, under a key
-   that is prepared once, and then, as Seal and Commit have to, each time; checkpoints
-   in their three calls, beside sealing a file; the call of Recover that reads a
-   checkpoint and a full log, beside opening the file and the records. */
+   of opening them.  The last four call the collector as firmware does, through
+   include/paviluko.h: transactions, each accepted, sealed and committed, beside
+   sealing and opening each, under a key that is prepared once, and then, as Seal
+   and Commit have to, each time; checkpoints in their three calls, beside sealing
+   a file; the call of Recover that reads a checkpoint and a full log, beside
+   opening the file and the records. */
 
 #define _POSIX_C_SOURCE 199309L
 
+#include "calls.h"
 #include "cipher.h"
-#include "collector.h"
 #include "common.h"
 #include "sealed.h"
 
 #include <stdio.h>
-#include <stdlib.h>
 #include <string.h>
 
 enum {
@@ -28,7 +28,6 @@ enum {
     WRITES = 16, TEXT = 8 + 8 * WRITES, RECORD = TEXT + FRAME,
     METERS = 256, ENTRY = 24, TABLE = METERS * ENTRY, FILE_LEN = TABLE + FRAME,
     LOG = 1489,                         /* so many such records fill a log of 262,144 bytes */
-    LISTED = 128,                       /* so many records are listed before a point is needed */
     FILES = 8,                          /* so many checkpoints at a time */
     VERSION = 8,                        /* the version of the file that is recovered from */
     ROUNDS = 25
@@ -43,14 +42,8 @@ static uint8_t bare_record[TEXT + TAG], bare_file[TABLE + TAG];
 static uint8_t texts[LOG * TEXT], log_bytes[LOG * RECORD];
 static uint8_t key_bytes[KEY];
 static uint8_t record_nonce[NONCE] = { 1, 3, 0, 0, 2, 1 }, file_nonce[NONCE] = { 2, 0, 0, 0, 9 };
-
-static void check(int right, const char *what)
-{
-    if (right)
-        return;
-    fprintf(stderr, "bench: %s went wrong\n", what);
-    exit(1);
-}
+static paviluko_state cold, serving, showing;   /* before the full log is read; in service; the same with readings */
+static uint8_t out[FILE_LEN];
 
 /* ---- the work ---- */
 
@@ -79,19 +72,27 @@ static int enter_log(void)
     return sealed_enter_each(file_table, TABLE, texts, sizeof texts, 3, 258) == SEALED_DONE;
 }
 
-static int transact(void)
+static int transactions(void)
 {
-    return collector_transactions(text, TEXT, LISTED) == LISTED;
+    paviluko_state s = serving;
+    for (unsigned i = 0; i < PAVILUKO_LISTED; i++)
+        transact(&s, text, TEXT, (uint8_t)(i % PAVILUKO_LANES), i, out);
+    return 1;
 }
 
 static int checkpoints(void)
 {
-    return collector_checkpoints(text, TEXT, FILES) == FILES;
+    paviluko_state s = showing;
+    for (int i = 0; i < FILES; i++)
+        checkpoint(&s, out);
+    return 1;
 }
 
 static int recover(void)
 {
-    return collector_recover(key_bytes, KEY, file, FILE_LEN, log_bytes, sizeof log_bytes, LOG, VERSION) == 1;
+    paviluko_state s = cold;
+    taken(paviluko_do_recover(&s, file, FILE_LEN, log_bytes, sizeof log_bytes, NULL, 0), "recover");
+    return 1;
 }
 
 /* ---- the cipher's part of it ---- */
@@ -128,8 +129,8 @@ static int prepare(void) { return cipher_prepare(key_bytes, KEY, key.schedule, k
 static int transaction_from_key(void) { return prepare() && bare_seal_record() && prepare() && bare_open_record(); }
 
 static int bare_open_log(void) { return each(bare_open_record, LOG); }
-static int bare_transact(void) { return each(bare_transaction, LISTED); }
-static int transact_from_key(void) { return each(transaction_from_key, LISTED); }
+static int bare_transactions(void) { return each(bare_transaction, PAVILUKO_LISTED); }
+static int transactions_from_key(void) { return each(transaction_from_key, PAVILUKO_LISTED); }
 static int bare_checkpoints(void) { return each(bare_seal_file, FILES); }
 static int bare_recover(void) { return bare_open_file() && bare_open_log(); }
 
@@ -143,8 +144,8 @@ static struct row {
     { "seal a checkpoint", { seal_file, bare_seal_file }, { 0, 0 } },
     { "open a checkpoint", { open_file, bare_open_file }, { 0, 0 } },
     { "enter a full log, beside opening it", { enter_log, bare_open_log }, { 0, 0 } },
-    { "128 transactions", { transact, bare_transact }, { 0, 0 } },
-    { "the same, from a bare key", { transact, transact_from_key }, { 0, 0 } },
+    { "128 transactions", { transactions, bare_transactions }, { 0, 0 } },
+    { "the same, from a bare key", { transactions, transactions_from_key }, { 0, 0 } },
     { "8 checkpoints", { checkpoints, bare_checkpoints }, { 0, 0 } },
     { "recover, a full log", { recover, bare_recover }, { 0, 0 } },
 };
@@ -181,6 +182,17 @@ static void make_work(void)
         e[22] = 1;
         e[23] = 0;
     }
+}
+
+/* The collectors that calls start from: one whose vault has the full log's numbers, on lane 0, and the file's version; one in
+   service; and one that has made a transaction. */
+static void make_collectors(void)
+{
+    paviluko_vault x = { .w = { LOG }, .v = { LOG }, .s = VERSION };
+    taken(paviluko_do_load(&cold, &x, key_bytes, KEY), "load");
+    start_new(&serving, key_bytes, out);
+    showing = serving;
+    transact(&showing, text, TEXT, 0, 0, out);
 }
 
 /* Both seal to the same bytes, and both open to what was sealed. */
@@ -224,6 +236,7 @@ static void run_in_turn(struct row *r)
 int main(void)
 {
     make_work();
+    make_collectors();
     check_work();
     for (int round = 0; round < ROUNDS; round++)
         for (int i = 0; i < ROWS; i++)
