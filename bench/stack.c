@@ -140,7 +140,10 @@ int main(void)
     line("checkpoint, N", step(checkpoint));
     line("checkpoint, the file", step(checkpoint));
     line("checkpoint, S", step(checkpoint));
-    line("truncate, R", step(truncate_at));
+    size_t truncating = 0;
+    for (int i = 0; i < 9; i++)
+        truncating = most(truncating, step(truncate_at));
+    line("truncate", truncating);
     state = before;
     step(load);
     line("recover, reading a card", step(recover));
