@@ -6,6 +6,7 @@ ghost use Rattle.protocol.specs.Said.{shownAs};
 ghost use Rattle.octets.specs.Lists.{at};
 ghost use Rattle.protocol.specs.Steps.{putR};
 ghost use Rattle.protocol.specs.Truncate.{afterTruncateR, truncateDelete, truncate};
+ghost use Rattle.truncating.specs.Turn.{laneDue, deletes};
 use protocol::Answer;
 use protocol::Due;
 use protocol::Point;
@@ -50,14 +51,65 @@ fn deleted(c: State, position: u64) -> Answer
 {
     let old = c.points;
     let points = journal::points::dropped_to(old, position);
-    let mut next = c;
-    next.points = points;
-    let x = c.vault;
-    state::stored(next, x, Due::Nothing, Store::Delete { position }, 0)
+    let vault = c.vault;
+    let phase = c.phase;
+    let table = c.table;
+    let journal = c.journal;
+    let held = c.held;
+    let key = c.key;
+    let state = State {
+        vault,
+        phase,
+        due: Due::Nothing,
+        table,
+        journal,
+        points,
+        held,
+        key,
+    };
+    state::taken(state, Store::Delete { position }, 0)
+}
+
+// The lane whose R a call at a position stores, and a lane that there is not where it stores none.
+fn lane_due(due: Due, position: u64) -> u8
+    ensures { λ r. ⌜ r ≡ laneDue due position ⌝ }
+{
+    match due {
+        Due::Nothing => 0,
+        Due::Truncate { position: at, step } => match step {
+            TruncateStep::R { lane } => {
+                if at == position {
+                    return lane;
+                }
+                LANES
+            }
+            TruncateStep::Delete => LANES,
+        },
+        Due::Record => LANES,
+        Due::Checkpoint { step } => LANES,
+        Due::Recover { step } => LANES,
+    }
+}
+
+// Whether a call at a position names the deletion.
+fn deletes(due: Due, position: u64) -> bool
+    ensures { λ r. ⌜ r ≡ deletes due position ⌝ }
+{
+    match due {
+        Due::Nothing => false,
+        Due::Truncate { position: at, step } => match step {
+            TruncateStep::R { lane } => false,
+            TruncateStep::Delete => at == position,
+        },
+        Due::Record => false,
+        Due::Checkpoint { step } => false,
+        Due::Recover { step } => false,
+    }
 }
 
 // Truncate: a position. It refuses a collector that is not in service, that has another store due, or that is
-// truncating at another position (1), and a position where no covered point stands (14).
+// truncating at another position (1), and a position where no covered point stands (14). Each answer is built in one place,
+// for a state that is passed is copied.
 pub fn truncate(c: State, position: u64) -> Answer
     ensures { λ r. ⌜ shownAs r [] ≡ truncate c position ⌝ }
 {
@@ -74,28 +126,22 @@ pub fn truncate(c: State, position: u64) -> Answer
     let read = journal::points::find_point(p, position);
     let q = read.point;
     let found = read.found;
-    if state::is_nothing(due) {
-        let bare = !found | !q.covered;
-        if bare {
-            return state::refused(c, Refusal::Point);
-        }
-        let set = lane_step(x, position, 0, q);
-        return steps::stepped(c, set);
+    let first = state::is_nothing(due);
+    let bare = first & (!found | !q.covered);
+    if bare {
+        return state::refused(c, Refusal::Point);
     }
-    let Due::Truncate { position: at, step } = due else {
+    if deletes(due, position) {
+        return deleted(c, position);
+    }
+    let lane = lane_due(due, position);
+    let off = !found | (LANES <= lane);
+    if off {
         return state::refused(c, Refusal::Condition);
-    };
-    if at != position {
-        return state::refused(c, Refusal::Condition);
     }
-    match step {
-        TruncateStep::R { lane } => {
-            if !found {
-                return state::refused(c, Refusal::Condition);
-            }
-            let set = lane_step(x, position, lane, q);
-            steps::stepped(c, set)
-        }
-        TruncateStep::Delete => deleted(c, position),
-    }
+    let set = lane_step(x, position, lane, q);
+    let raised = set.vault;
+    let next = set.due;
+    let store = set.store;
+    state::stored(c, raised, next, store, 0)
 }

@@ -10,7 +10,7 @@ use Rattle.truncating.proofs.deleted.Tie as tie
 
 returns : tie.Need-returns
 unfolding truncateDelete shown shownAs
-returns c = ap (λ (r : Answer). shownAs r []) (c .stored .ensures) ∙ rw (c .before .before .dropped-to .ensures)
+returns c = ap (λ (r : Answer). shownAs r []) (c .taken .ensures) ∙ rw (c .before .before .before .before .before .before .dropped-to .ensures)
 
 pub deleted-spec : {M : Type 1} → statement M
 deleted-spec = tie.close (tie.spec (λ c κs. search needs) (λ c κs. search needs) returns)
