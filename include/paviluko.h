@@ -32,7 +32,7 @@
  *
  * MEMORY AND THREADS. There is no heap, no global and no hidden state: the functions are re-entrant, and no pointer outlives
  * its call. State and reply are some 8 KB each and are passed by value, so a call needs stack. Measured (bench/stack.c), state
- * and reply among it: load 27 KB, accept 31, point 40, commit 47, seal 52, truncate 59, checkpoint 72, recover 105, the
+ * and reply among it: load 27 KB, accept 31, truncate 32, point 40, commit 47, seal 52, checkpoint 72, recover 105, the
  * questions at the end 23. PAVILUKO_STACK leaves room beyond the deepest of them. The paviluko_do_ functions at the end of
  * this file take a pointer to the state instead, and write the next state back.
  *

@@ -8,9 +8,10 @@ use borrow.Author.Tests.{le-leb, lt-leb, not-true, not-false}
 use lib.Dec.{leb}
 use lib.ListN.{length}
 use Rattle.octets.specs.Lists.{putOver}
+use Rattle.octets.proofs.BoolLaws.{or-right}
 use Rattle.protocol.specs.Vaults.{counterMax}
-use Rattle.protocol.specs.States.{valid, serving, validBy}
-use Rattle.protocol.specs.Said.{Answered, refuse, refusing, numberOf, valuesOf, shown, shownAs, refusedWith}
+use Rattle.protocol.specs.States.{valid, serving, withVault, validBy}
+use Rattle.protocol.specs.Said.{Answered, refuse, refusing, numberOf, valuesOf, shown, shownAs, refusedWith, takenWith}
 use Rattle.protocol.specs.Steps.{standsIf, raiseS, raiseN, stepped}
 use Rattle.protocol.specs.Checkpoint.{coveredPoints, checkpointed, checkpointFirst, checkpointLast, checkpointDue, checkpoint}
 use Rattle.protocol.specs.declared.Points.{Points}
@@ -29,17 +30,18 @@ module _ (c : State) where
   unfolding shownAs shown numberOf valuesOf checkpointFirst refuse
   first-spent h = rw h
 
-  pub first-taken : (leb counterMax (c .vault .s) || leb counterMax (c .vault .n)) ≡ false → {s : Step} → s ≡ raiseN (c .vault) (D.Checkpoint K.File) → stepped c s ≡ checkpointFirst c
-  unfolding checkpointFirst refuse
-  first-taken h e = rw (h, e)
+  pub first-taken : (leb counterMax (c .vault .s) || leb counterMax (c .vault .n)) ≡ false → {s : Step} → s ≡ raiseN (c .vault) (D.Checkpoint K.File)
+      → shownAs (takenWith (withVault c (s .vault) (s .due)) (s .store) 0) [] ≡ checkpointFirst c
+  unfolding checkpointFirst raiseN standsIf stepped refuse shownAs shown
+  first-taken h e = rw (h, e, or-right (leb counterMax (c .vault .s)) (leb counterMax (c .vault .n)) h)
 
   pub last-spent : counterMax ≤ c .vault .s → shownAs (refusedWith c R.Condition) [] ≡ checkpointLast c
   unfolding shownAs shown numberOf valuesOf checkpointLast refuse
   last-spent h = rw (le-leb counterMax (c .vault .s) h)
 
   pub last-taken : c .vault .s < counterMax → (p : Points) → p ≡ coveredPoints (c .points) → {s : Step} → s ≡ raiseS (c .vault) D.Nothing
-      → stepped (record { vault = c .vault; phase = c .phase; due = c .due; table = c .table; journal = c .journal; points = p; held = c .held; key = c .key }) s ≡ checkpointLast c
-  unfolding checkpointLast raiseS standsIf stepped checkpointed refuse
+      → shownAs (takenWith (record { vault = s .vault; phase = c .phase; due = s .due; table = c .table; journal = c .journal; points = p; held = c .held; key = c .key }) (s .store) 0) [] ≡ checkpointLast c
+  unfolding checkpointLast raiseS standsIf checkpointed refuse shownAs shown
   last-taken h p e es = rw (es, lt-leb counterMax (c .vault .s) h, e)
 
 -- ---- the whole

@@ -24,8 +24,11 @@ fn first_call(c: State) -> Answer
     let next = Due::Checkpoint {
         step: CheckpointStep::File,
     };
-    let step = steps::raise_n(x, next);
-    steps::stepped(c, step)
+    let set = steps::raise_n(x, next);
+    let raised = set.vault;
+    let due = set.due;
+    let store = set.store;
+    state::stored(c, raised, due, store, 0)
 }
 
 // The call that names S, behind which the points are covered. It refuses an S at the maximum (1).
@@ -40,8 +43,11 @@ fn last_call(c: State) -> Answer
     let points = journal::points::covered_points(p);
     let mut next = c;
     next.points = points;
-    let step = steps::raise_s(x, Due::Nothing);
-    steps::stepped(next, step)
+    let set = steps::raise_s(x, Due::Nothing);
+    let raised = set.vault;
+    let due = set.due;
+    let store = set.store;
+    state::stored(next, raised, due, store, 0)
 }
 
 // Checkpoint: names N, puts the file out, names S, a call each. It refuses a state that is not valid and in service,

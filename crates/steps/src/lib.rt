@@ -1,13 +1,12 @@
 // One store of an operation that takes several (01, Operations): a vault number, or a checkpoint's file. Each is told
 // which store is due behind it. Checkpoint, Truncate and Recover are made of these.
 ghost use mathlib.Core.Path.{_≡_};
-ghost use mathlib.Core.List.{[]};
 ghost use lib.ListN.{length};
 ghost use Rattle.octets.specs.Lists.{putOver};
 ghost use Rattle.sealed.specs.Aead.{aesGcm};
 ghost use Rattle.sealed.specs.Checkpoint.{fileBytes, fileAnswer, filePut};
 ghost use Rattle.protocol.specs.Said.{shownAs};
-ghost use Rattle.protocol.specs.Steps.{raiseS, raiseN, raiseE, putR, putV, stepped, fileStep};
+ghost use Rattle.protocol.specs.Steps.{raiseS, raiseN, raiseE, putR, putV, fileStep};
 use protocol::Answer;
 use protocol::Due;
 use protocol::Refusal;
@@ -130,20 +129,6 @@ pub fn put_v(x: Vault, lane: u8, value: u64, next: Due) -> Step
         due: next,
         store: Store::V { lane, value },
     }
-}
-
-// What a call answers with the step of a vault number: one that cannot be set is turned down (1).
-pub fn stepped(c: State, step: Step) -> Answer
-    ensures { λ r. ⌜ shownAs r [] ≡ stepped c step ⌝ }
-{
-    let goes = step.goes;
-    if !goes {
-        return state::refused(c, Refusal::Condition);
-    }
-    let x = step.vault;
-    let due = step.due;
-    let store = step.store;
-    state::stored(c, x, due, store, 0)
 }
 
 // Seals a table under a key as a checkpoint file at the start of out. It refuses an output with no room; out is then

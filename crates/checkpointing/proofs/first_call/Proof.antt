@@ -15,8 +15,9 @@ returns c =
 
 returns-2 : tie.Need-returns-2
 returns-2 c =
-    let i = c .before .before in
-    c .stepped .ensures ∙ first-taken (i .before .before .before .before .args .c) (i .if1 .left) (c .before .raise-n .ensures)
+    let n = c .before .before in
+    let i = n .before in
+    ap (λ (y : Answer). shownAs y []) (c .stored .ensures) ∙ first-taken (i .before .before .before .before .args .c) (i .if1 .left) (n .raise-n .ensures)
 
 pub first-call-spec : {M : Type 1} → statement M
 first-call-spec = tie.close (tie.spec (λ c κs. search needs) returns (λ c κs. search needs) (λ c κs. search needs) returns-2)

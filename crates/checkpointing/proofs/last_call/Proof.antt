@@ -15,9 +15,10 @@ returns c =
 
 returns-2 : tie.Need-returns-2
 returns-2 c =
-    let p = c .before .before .covered-points in
-    let i = c .before .before .before .before in
-    c .stepped .ensures ∙ last-taken (i .before .before .before .args .c) (i .if1 .left) (p .result) (p .ensures) (c .before .raise-s .ensures)
+    let s = c .before .before in
+    let p = s .before .covered-points in
+    let i = s .before .before .before in
+    ap (λ (y : Answer). shownAs y []) (c .stored .ensures) ∙ last-taken (i .before .before .before .args .c) (i .if1 .left) (p .result) (p .ensures) (s .raise-s .ensures)
 
 pub last-call-spec : {M : Type 1} → statement M
 last-call-spec = tie.close (tie.spec (λ c κs. search needs) returns (λ c κs. search needs) (λ c κs. search needs) (λ c κs. search needs) returns-2)
