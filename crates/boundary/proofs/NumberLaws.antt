@@ -16,7 +16,7 @@ use Rattle.protocol.specs.Truncate.{truncate}
 use Rattle.protocol.specs.Recover.{recover}
 use Rattle.protocol.specs.declared.Vault.{Vault}
 use Rattle.protocol.specs.declared.State.{State}
-use Rattle.protocol.proofs.NumberLaws.{numberOk}
+use Rattle.protocol.proofs.StopLaws.{numberOk}
 use Rattle.protocol.proofs.Walks.{walk-load, walk-accept, walk-seal, walk-commit, walk-point, walk-checkpoint, walk-truncate, walk-recover}
 use Rattle.boundary.specs.Replies.{saidOf}
 use Rattle.boundary.proofs.ReplyLaws.{named-0}

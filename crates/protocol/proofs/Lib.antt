@@ -1,5 +1,5 @@
 -- Theorems about the definitions.
--- BlankLaws: the blank state. NumberLaws: the numbers that a reading stops with. Walks: the ways through an operation. SpentLaws: 01's bounds for a spent counter. RefusalLaws: refusals. SaidLaws: answers in 01's numbers lose nothing. VaultLaws: Load's rule as facts, and the stores that keep it. TallyLaws: the stores of
+-- BlankLaws: the blank state. StopLaws: the numbers that a reading stops with. Walks: the ways through an operation. SpentLaws: 01's bounds for a spent counter. RefusalLaws: refusals. SaidLaws: answers in 01's numbers lose nothing. VaultLaws: Load's rule as facts, and the stores that keep it. TallyLaws: the stores of
 -- recovery and truncation, in order.
 -- Basis: what the theorem takes from the layers below. Lanes: an array of lanes. Latest: the latest reading over a set of records.
 -- BookLaws: the book's table. MissingLaws: lanes that have not reached V. Hostile: reading any log. LaidLaws, Card, Faith: reading the log of
@@ -9,7 +9,7 @@
 -- Runs: every list keeps the invariants. ServiceLaws: what 01 says of a collector in service, after any list. Theorem: demand 3. WorkedLaws: of a worked list, an honest card is taken and hostile ones are refused; another has every call, both kinds of cut and a broken recovery.
 pub mod BlankLaws
 pub mod SpentLaws
-pub mod NumberLaws
+pub mod StopLaws
 pub mod Walks
 pub mod RefusalLaws
 pub mod SaidLaws

@@ -12,7 +12,7 @@ use Rattle.protocol.specs.Checkpoint.{checkpoint}
 use Rattle.protocol.specs.Truncate.{truncate}
 use Rattle.protocol.specs.Recover.{recover}
 use Rattle.protocol.specs.declared.State.{State}
-use Rattle.protocol.proofs.NumberLaws.{numberOk}
+use Rattle.protocol.proofs.StopLaws.{numberOk}
 use Rattle.protocol.proofs.Walks.{walk-accept, walk-seal, walk-commit, walk-point, walk-checkpoint, walk-truncate, walk-recover}
 
 unfoldable pub keptBy : Said → State → State → List ℕ → Type 0

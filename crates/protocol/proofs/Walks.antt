@@ -44,7 +44,7 @@ use Rattle.protocol.specs.declared.RecoverNumber.{RecoverNumber}
 use Rattle.protocol.specs.declared.RecoverNumber.the-variants as M
 use Rattle.protocol.specs.declared.Store.{Store}
 use Rattle.protocol.specs.declared.Store.the-variants as S
-use Rattle.protocol.proofs.NumberLaws.{numberOk, readBy, ReadNumbered, from-numbered}
+use Rattle.protocol.proofs.StopLaws.{numberOk, readBy, ReadNumbered, from-numbered}
 
 -- what is not at a limit is below any that is not lower
 within : (a b k : ℕ) → leb a b ≡ false → a ≤ k → b < k
