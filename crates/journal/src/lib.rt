@@ -9,17 +9,15 @@ ghost use Rattle.protocol.specs.Accept.{tooLow};
 ghost use Rattle.journal.specs.Beyond.{listedIf, heldIf};
 use protocol::Held;
 use protocol::Journal;
+use protocol::LISTED;
+use protocol::POINTS;
 use protocol::Point;
 use protocol::Points;
+use table::LANES;
 use transaction::MAX_TEXT;
 
 pub mod marks;
 pub mod points;
-
-// The most records listed at or above the newest point.
-pub const LISTED: usize = 128;
-// The most points kept.
-pub const POINTS: usize = 8;
 
 // No record listed, and no position used.
 pub fn no_journal() -> Journal
@@ -40,7 +38,7 @@ pub fn no_journal() -> Journal
 pub fn no_point() -> Point
     ensures { λ r. ⌜ r ≡ noPoint ⌝ }
 {
-    let counts = [0u64; 8];
+    let counts = [0u64; LANES as usize];
     Point {
         position: 0,
         counts,

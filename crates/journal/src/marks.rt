@@ -9,8 +9,9 @@ ghost use lib.ListN.{length};
 ghost use Rattle.protocol.specs.States.{listed};
 ghost use Rattle.protocol.specs.Point.{marksOf, marksFrom, unseenBelow, journalOf, countsAt};
 ghost use Rattle.journal.specs.Less.{oneLess};
-use crate::LISTED;
 use protocol::Journal;
+use protocol::LISTED;
+use protocol::Lanes;
 use protocol::Vault;
 
 // How many records are listed.
@@ -23,7 +24,7 @@ fn listed_in(j: Journal) -> usize
 }
 
 // The numbers of the lanes with that of a lane less 1; a 0 stays, and a lane above 7 changes nothing.
-fn one_less(a: [u64; 8], lane: u8) -> [u64; 8]
+fn one_less(a: Lanes, lane: u8) -> Lanes
     ensures { λ r. ⌜ r ≡ oneLess a lane ⌝ }
 {
     let k = vault::lane_at(a, lane);
@@ -32,7 +33,7 @@ fn one_less(a: [u64; 8], lane: u8) -> [u64; 8]
 }
 
 // For each lane how many numbers lie below a position: W less the listed records at or above it.
-pub fn counts_at(x: Vault, j: Journal, position: u64) -> [u64; 8]
+pub fn counts_at(x: Vault, j: Journal, position: u64) -> Lanes
     ensures { λ r. ⌜ r ≡ countsAt (x .w) (marksFrom position (marksOf j)) ⌝ }
 {
     let mut left = x.w;

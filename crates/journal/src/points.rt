@@ -9,7 +9,7 @@ ghost use Rattle.protocol.specs.States.{pointsMax};
 ghost use Rattle.protocol.specs.Checkpoint.{coveredPoint, coveredPoints};
 ghost use Rattle.protocol.specs.Truncate.{pointsOf, findPoint, droppedTo};
 ghost use Rattle.journal.specs.Beyond.{pointsIf, shownPoint};
-use crate::POINTS;
+use protocol::POINTS;
 use protocol::Point;
 use protocol::Points;
 

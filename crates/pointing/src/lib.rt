@@ -4,6 +4,7 @@ ghost use mathlib.Core.List.{[]};
 ghost use Rattle.protocol.specs.Said.{shownAs};
 ghost use Rattle.protocol.specs.Point.{point};
 use protocol::Answer;
+use protocol::POINTS;
 use protocol::Point;
 use protocol::Refusal;
 use protocol::State;
@@ -27,7 +28,7 @@ pub fn point(c: State, position: u64) -> Answer
     if low {
         return state::refused(c, Refusal::Position);
     }
-    if journal::POINTS <= count {
+    if POINTS <= count {
         return state::refused(c, Refusal::Full);
     }
     if journal::marks::unseen_below(j, x, position) {

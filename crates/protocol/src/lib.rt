@@ -2,16 +2,24 @@
 //
 // This crate has the declared types and the definitions of the eight operations over them (specs/). It has no code: the
 // crates of the operations have it, and their contracts cite these definitions.
+use table::LANES;
 use table::Table;
 use transaction::MAX_TEXT;
+
+// A number for each lane.
+pub type Lanes = [u64; LANES as usize];
+// The most records listed at or above the newest point.
+pub const LISTED: usize = 128;
+// The most points kept.
+pub const POINTS: usize = 8;
 
 // The vault's 27 numbers. For each lane: w, the numbers handed out; v, the numbers visible; r, the numbers truncated.
 // The epoch e, the checkpoint version s, and the checkpoint seal number n.
 #[repr(C)]
 pub struct Vault {
-    pub w: [u64; 8],
-    pub v: [u64; 8],
-    pub r: [u64; 8],
+    pub w: Lanes,
+    pub v: Lanes,
+    pub r: Lanes,
     pub e: u64,
     pub s: u64,
     pub n: u64,
@@ -66,8 +74,8 @@ pub enum RecoverNumber {
 // The accepted records at or above the newest point, in the order of their positions, and the last position used.
 #[repr(C)]
 pub struct Journal {
-    pub positions: [u64; 128],
-    pub lanes: [u8; 128],
+    pub positions: [u64; LISTED],
+    pub lanes: [u8; LISTED],
     pub count: usize,
     pub used: bool,
     pub last: u64,
@@ -77,14 +85,14 @@ pub struct Journal {
 #[repr(C)]
 pub struct Point {
     pub position: u64,
-    pub counts: [u64; 8],
+    pub counts: Lanes,
     pub covered: bool,
 }
 
 // The points kept, and the newest one set since service began.
 #[repr(C)]
 pub struct Points {
-    pub items: [Point; 8],
+    pub items: [Point; POINTS],
     pub count: usize,
     pub any: bool,
     pub newest: u64,

@@ -8,6 +8,7 @@ ghost use Rattle.octets.specs.Lists.{at};
 ghost use Rattle.octets.specs.Every.{allBelow};
 ghost use Rattle.table.specs.Table.{lanes};
 ghost use Rattle.protocol.specs.Vaults.{newVault, laneOk, vaultOk, setW, setV, setR, setE, setS, setN};
+use protocol::Lanes;
 use protocol::Vault;
 use table::LANES;
 
@@ -18,9 +19,9 @@ pub const COUNTER_MAX: u64 = 0xFFFF_FFFF_FFFF;
 pub fn new_vault() -> Vault
     ensures { λ r. ⌜ r ≡ newVault ⌝ }
 {
-    let w = [0u64; 8];
-    let v = [0u64; 8];
-    let r = [0u64; 8];
+    let w = [0u64; LANES as usize];
+    let v = [0u64; LANES as usize];
+    let r = [0u64; LANES as usize];
     Vault {
         w,
         v,
@@ -32,7 +33,7 @@ pub fn new_vault() -> Vault
 }
 
 // The number of a lane, or 0 for a lane above 7.
-pub fn lane_at(a: [u64; 8], lane: u8) -> u64
+pub fn lane_at(a: Lanes, lane: u8) -> u64
     ensures { λ r. ⌜ r ≡ at a lane ⌝ }
 {
     if lane < LANES { a[lane as usize] } else { 0 }
@@ -95,7 +96,7 @@ pub fn vault_ok(x: Vault) -> bool
 }
 
 // The numbers of the lanes with that of a lane set to k; a lane above 7 changes nothing.
-pub fn lane_set(a: [u64; 8], lane: u8, k: u64) -> [u64; 8]
+pub fn lane_set(a: Lanes, lane: u8, k: u64) -> Lanes
     ensures { λ r. ⌜ r ≡ set a lane k ⌝ }
 {
     let mut next = a;
