@@ -2,8 +2,8 @@
 // below it. Nine calls, each naming one store.
 ghost use mathlib.Core.Path.{_≡_};
 ghost use mathlib.Core.List.{[]};
-ghost use Rattle.protocol.specs.Said.{shownAs};
 ghost use Rattle.octets.specs.Lists.{at};
+ghost use Rattle.protocol.specs.Said.{shownAs};
 ghost use Rattle.protocol.specs.Steps.{putR};
 ghost use Rattle.protocol.specs.Truncate.{afterTruncateR, truncateDelete, truncate};
 ghost use Rattle.truncating.specs.Turn.{laneDue, deletes};
