@@ -25,7 +25,7 @@ enum {
     RECORD = TEXT + PAVILUKO_RECORD_EXTRA,
     AAD = 20,
     BODY = TEXT + 16,
-    FULL = PAVILUKO_LISTED * (PAVILUKO_POINTS + 1), /* records of the longest log */
+    FULL = PAVILUKO_RECORDS * (PAVILUKO_POINTS + 1), /* records of the longest log */
     ROUNDS = 15
 };
 
@@ -70,7 +70,7 @@ static void day_of(paviluko_state *s)
 {
     uint8_t text[TEXT];
     for (unsigned i = 0; i < A_DAY; i++) {
-        if (s->journal.count == PAVILUKO_LISTED)
+        if (s->journal.count == PAVILUKO_RECORDS)
             tidy(s, place(i) - 1);
         put_text(text, i);
         transact(s, text, TEXT, (uint8_t)(i % PAVILUKO_LANES), place(i), record);
@@ -123,7 +123,7 @@ static void recovery(void)
     memcpy(card_file, out, sizeof card_file);
     for (unsigned i = 0; i < FULL; i++) {
         uint8_t text[TEXT];
-        if (s.journal.count == PAVILUKO_LISTED)
+        if (s.journal.count == PAVILUKO_RECORDS)
             taken(paviluko_do_point(&s, place(i) - 1), "point");
         put_text(text, i);
         transact(&s, text, TEXT, (uint8_t)(i % PAVILUKO_LANES), place(i), card_log + (size_t)i * RECORD);

@@ -75,7 +75,7 @@ static int enter_log(void)
 static int transactions(void)
 {
     paviluko_state s = serving;
-    for (unsigned i = 0; i < PAVILUKO_LISTED; i++)
+    for (unsigned i = 0; i < PAVILUKO_RECORDS; i++)
         transact(&s, text, TEXT, (uint8_t)(i % PAVILUKO_LANES), i, out);
     return 1;
 }
@@ -129,8 +129,8 @@ static int prepare(void) { return cipher_prepare(key_bytes, KEY, key.schedule, k
 static int transaction_from_key(void) { return prepare() && bare_seal_record() && prepare() && bare_open_record(); }
 
 static int bare_open_log(void) { return each(bare_open_record, LOG); }
-static int bare_transactions(void) { return each(bare_transaction, PAVILUKO_LISTED); }
-static int transactions_from_key(void) { return each(transaction_from_key, PAVILUKO_LISTED); }
+static int bare_transactions(void) { return each(bare_transaction, PAVILUKO_RECORDS); }
+static int transactions_from_key(void) { return each(transaction_from_key, PAVILUKO_RECORDS); }
 static int bare_checkpoints(void) { return each(bare_seal_file, FILES); }
 static int bare_recover(void) { return bare_open_file() && bare_open_log(); }
 

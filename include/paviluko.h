@@ -57,7 +57,7 @@ extern "C" {
 #define PAVILUKO_LANES 8
 #define PAVILUKO_METERS 256
 /* Records that may be listed at or above the newest point, and points that may be kept. */
-#define PAVILUKO_LISTED 128
+#define PAVILUKO_RECORDS 128
 #define PAVILUKO_POINTS 8
 /* No vault number goes beyond this one. */
 #define PAVILUKO_COUNTER_MAX ((UINT64_C(1) << 48) - 1)
@@ -112,21 +112,21 @@ enum {
 /* paviluko_said.number: why a call was turned down. In brackets what value then is; it is 0 for the others. */
 enum {
     PAVILUKO_TAKEN = 0,
-    PAVILUKO_CONDITION = 1,    /* another store is due, wrong phase for this call, or a state that no call left */
-    PAVILUKO_NUMBERS = 2,      /* load: vault numbers break V <= W, R <= W, R > V only where R = W, or the maximum */
-    PAVILUKO_LENGTH = 3,       /* key not 16 bytes, out too short, log too long (the length needed or allowed) */
-    PAVILUKO_TRANSACTION = 4,  /* transaction not in its layout */
-    PAVILUKO_LANE = 5,         /* lane above 7 */
-    PAVILUKO_POSITION = 6,     /* position too low */
-    PAVILUKO_FULL = 7,         /* 128 records listed, or 8 points kept */
-    PAVILUKO_SPENT = 8,        /* a counter is at its maximum */
-    PAVILUKO_CLOSED = 9,       /* bytes do not open (offset of the record's first byte; 0 for a checkpoint and in commit) */
-    PAVILUKO_EPOCH = 10,       /* wrong epoch (offset, 0 in commit) */
-    PAVILUKO_TURN = 11,        /* number out of turn (offset, 0 in commit) */
-    PAVILUKO_VERSION = 12,     /* checkpoint version is not S */
-    PAVILUKO_MISSING = 13,     /* visible records missing (the lowest such lane) */
-    PAVILUKO_NO_POINT = 14,    /* no such point, or not covered by a checkpoint */
-    PAVILUKO_UNSEEN = 15       /* a record below the point is not committed yet */
+    PAVILUKO_REFUSED_CONDITION = 1,    /* another store is due, wrong phase for this call, or a state that no call left */
+    PAVILUKO_REFUSED_NUMBERS = 2,      /* load: numbers break V <= W, R <= W, R > V only where R = W, or the maximum */
+    PAVILUKO_REFUSED_LENGTH = 3,       /* key not 16 bytes, out too short, log too long (the length needed or allowed) */
+    PAVILUKO_REFUSED_TRANSACTION = 4,  /* transaction not in its layout */
+    PAVILUKO_REFUSED_LANE = 5,         /* lane above 7 */
+    PAVILUKO_REFUSED_POSITION = 6,     /* position too low */
+    PAVILUKO_REFUSED_FULL = 7,         /* 128 records listed, or 8 points kept */
+    PAVILUKO_REFUSED_SPENT = 8,        /* a counter is at its maximum */
+    PAVILUKO_REFUSED_CLOSED = 9,       /* bytes do not open (offset of the record; 0 for a checkpoint and in commit) */
+    PAVILUKO_REFUSED_EPOCH = 10,       /* wrong epoch (offset, 0 in commit) */
+    PAVILUKO_REFUSED_TURN = 11,        /* number out of turn (offset, 0 in commit) */
+    PAVILUKO_REFUSED_VERSION = 12,     /* checkpoint version is not S */
+    PAVILUKO_REFUSED_MISSING = 13,     /* visible records missing (the lowest such lane) */
+    PAVILUKO_REFUSED_NO_POINT = 14,    /* no such point, or not covered by a checkpoint */
+    PAVILUKO_REFUSED_UNSEEN = 15       /* a record below the point is not committed yet */
 };
 
 /* ---- structs ----
@@ -161,27 +161,27 @@ typedef struct {
 
 /* The accepted records at or above the newest point: the first count places of positions and lanes. */
 typedef struct {
-    uint64_t positions[PAVILUKO_LISTED];
-    uint8_t lanes[PAVILUKO_LISTED];
+    uint64_t positions[PAVILUKO_RECORDS];
+    uint8_t lanes[PAVILUKO_RECORDS];
     size_t count;
     uint8_t used;    /* 0 or 1: whether a position was used since service began */
     uint64_t last;   /* the last position used */
-} paviluko_journal;
+} paviluko_record_list;
 
 /* A point: per lane how many numbers lie below it. */
 typedef struct {
     uint64_t position;
     uint64_t counts[PAVILUKO_LANES];
     uint8_t covered; /* 0 or 1: whether a checkpoint covers it */
-} paviluko_mark;
+} paviluko_point_item;
 
 /* The points kept: the first count items. */
 typedef struct {
-    paviluko_mark items[PAVILUKO_POINTS];
+    paviluko_point_item items[PAVILUKO_POINTS];
     size_t count;
     uint8_t any;     /* 0 or 1: whether a point was set since service began */
     uint64_t newest; /* the newest one, even if dropped */
-} paviluko_marks;
+} paviluko_point_list;
 
 /* The transaction that accept holds for seal: the first len bytes of text. */
 typedef struct {
@@ -203,8 +203,8 @@ typedef struct {
     paviluko_vault vault; /* as it stands when the store named last is done */
     paviluko_due due;
     paviluko_table table;
-    paviluko_journal journal;
-    paviluko_marks points;
+    paviluko_record_list journal;
+    paviluko_point_list points;
     paviluko_held held;
     uint8_t key[PAVILUKO_KEY_LEN];
     uint8_t phase;        /* PAVILUKO_COLD, PAVILUKO_RECOVERING or PAVILUKO_IN_SERVICE */
@@ -215,7 +215,7 @@ typedef struct {
 typedef struct {
     uint64_t value;
     uint64_t len;
-    uint8_t number;  /* 0, or PAVILUKO_CONDITION .. PAVILUKO_UNSEEN */
+    uint8_t number;  /* 0, or PAVILUKO_REFUSED_CONDITION .. PAVILUKO_REFUSED_UNSEEN */
     uint8_t store;   /* PAVILUKO_STORE_ */
     uint8_t lane;
 } paviluko_said;
@@ -232,13 +232,13 @@ PAVILUKO_ASSERT(sizeof(paviluko_entry) == 24, "layout of paviluko_entry");
 PAVILUKO_ASSERT(offsetof(paviluko_entry, reading) == 16, "layout of paviluko_entry");
 PAVILUKO_ASSERT(offsetof(paviluko_entry, present) == 22, "layout of paviluko_entry");
 PAVILUKO_ASSERT(sizeof(paviluko_table) == 6144, "layout of paviluko_table");
-PAVILUKO_ASSERT(sizeof(paviluko_journal) == 1176, "layout of paviluko_journal");
-PAVILUKO_ASSERT(offsetof(paviluko_journal, count) == 1152, "layout of paviluko_journal");
-PAVILUKO_ASSERT(offsetof(paviluko_journal, last) == 1168, "layout of paviluko_journal");
-PAVILUKO_ASSERT(sizeof(paviluko_mark) == 80, "layout of paviluko_mark");
-PAVILUKO_ASSERT(offsetof(paviluko_mark, covered) == 72, "layout of paviluko_mark");
-PAVILUKO_ASSERT(sizeof(paviluko_marks) == 664, "layout of paviluko_marks");
-PAVILUKO_ASSERT(offsetof(paviluko_marks, newest) == 656, "layout of paviluko_marks");
+PAVILUKO_ASSERT(sizeof(paviluko_record_list) == 1176, "layout of paviluko_record_list");
+PAVILUKO_ASSERT(offsetof(paviluko_record_list, count) == 1152, "layout of paviluko_record_list");
+PAVILUKO_ASSERT(offsetof(paviluko_record_list, last) == 1168, "layout of paviluko_record_list");
+PAVILUKO_ASSERT(sizeof(paviluko_point_item) == 80, "layout of paviluko_point_item");
+PAVILUKO_ASSERT(offsetof(paviluko_point_item, covered) == 72, "layout of paviluko_point_item");
+PAVILUKO_ASSERT(sizeof(paviluko_point_list) == 664, "layout of paviluko_point_list");
+PAVILUKO_ASSERT(offsetof(paviluko_point_list, newest) == 656, "layout of paviluko_point_list");
 PAVILUKO_ASSERT(sizeof(paviluko_held) == 160, "layout of paviluko_held");
 PAVILUKO_ASSERT(offsetof(paviluko_held, position) == 152, "layout of paviluko_held");
 PAVILUKO_ASSERT(sizeof(paviluko_due) == 16, "layout of paviluko_due");
@@ -313,9 +313,9 @@ paviluko_entry paviluko_reading(paviluko_state s, uint8_t meter);
 paviluko_vault paviluko_numbers(paviluko_state s);
 uint8_t paviluko_phase(paviluko_state s);
 paviluko_due paviluko_due_store(paviluko_state s);
-/* How many accepted records are listed, of PAVILUKO_LISTED, and how many points are kept, of PAVILUKO_POINTS. */
+/* How many accepted records are listed, of PAVILUKO_RECORDS, and how many points are kept, of PAVILUKO_POINTS. */
 uint64_t paviluko_records(paviluko_state s);
-uint64_t paviluko_points_kept(paviluko_state s);
+uint64_t paviluko_points(paviluko_state s);
 
 #ifdef __cplusplus
 }

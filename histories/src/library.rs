@@ -65,22 +65,22 @@ fn state(raw: &Raw) -> ffi::State {
     let RawDue { position, kind, lane, second } = raw.due;
     let mark = |i: usize| match raw.points.get(i) {
         Some(point) => {
-            ffi::Mark { position: point.position, counts: lanes(&point.counts), covered: point.covered.into() }
+            ffi::PointItem { position: point.position, counts: lanes(&point.counts), covered: point.covered.into() }
         }
-        None => ffi::Mark::default(),
+        None => ffi::PointItem::default(),
     };
     ffi::State {
         vault: numbers(&raw.vault),
         due: ffi::Due { position, kind, lane, second },
         table: ffi::Table { entries: std::array::from_fn(|i| entry(raw.entries.get(i).unwrap_or(&None))) },
-        journal: ffi::Journal {
+        journal: ffi::RecordList {
             positions: std::array::from_fn(|i| raw.listed.get(i).map_or(0, |listed| listed.position)),
             lanes: std::array::from_fn(|i| raw.listed.get(i).map_or(0, |listed| listed.lane)),
             count: raw.listed_count,
             used: raw.last.is_some().into(),
             last: raw.last.unwrap_or(0),
         },
-        points: ffi::Marks {
+        points: ffi::PointList {
             items: std::array::from_fn(mark),
             count: raw.points_count,
             any: raw.newest.is_some().into(),

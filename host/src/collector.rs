@@ -358,7 +358,7 @@ impl Collector {
     /// How many points are kept.
     pub fn points(&self) -> u64 {
         // SAFETY: nothing is lent.
-        unsafe { ffi::paviluko_points_kept(*self.state) }
+        unsafe { ffi::paviluko_points(*self.state) }
     }
 
     /// Keeps the state that a call returned, and says what the call says.

@@ -49,10 +49,10 @@ pub struct Table {
     pub entries: [Entry; METERS],
 }
 
-/// Accepted records at or above the newest point, and the last position used (`paviluko_journal`).
+/// Accepted records at or above the newest point, and the last position used (`paviluko_record_list`).
 #[repr(C)]
 #[derive(Clone, Copy, Debug, PartialEq, Eq)]
-pub struct Journal {
+pub struct RecordList {
     /// Positions of the listed records, in order of acceptance.
     pub positions: [u64; RECORDS],
     /// Their lanes.
@@ -65,10 +65,10 @@ pub struct Journal {
     pub last: u64,
 }
 
-/// One point (`paviluko_mark`).
+/// One point (`paviluko_point_item`).
 #[repr(C)]
 #[derive(Clone, Copy, Debug, Default, PartialEq, Eq)]
-pub struct Mark {
+pub struct PointItem {
     /// Where it stands.
     pub position: u64,
     /// How many numbers of each lane lie below it.
@@ -77,12 +77,12 @@ pub struct Mark {
     pub covered: u8,
 }
 
-/// The points kept, and the newest one set (`paviluko_marks`).
+/// The points kept, and the newest one set (`paviluko_point_list`).
 #[repr(C)]
 #[derive(Clone, Copy, Debug, PartialEq, Eq)]
-pub struct Marks {
+pub struct PointList {
     /// The points, oldest first.
-    pub items: [Mark; POINTS],
+    pub items: [PointItem; POINTS],
     /// How many are kept.
     pub count: usize,
     /// 1 once a point was set since service began.
@@ -131,9 +131,9 @@ pub struct State {
     /// Latest readings.
     pub table: Table,
     /// Accepted records.
-    pub journal: Journal,
+    pub journal: RecordList,
     /// Points.
-    pub points: Marks,
+    pub points: PointList,
     /// The transaction held between Accept and Seal.
     pub held: Held,
     /// The key.
@@ -190,7 +190,7 @@ unsafe extern "C" {
     pub fn paviluko_phase(s: State) -> u8;
     pub fn paviluko_due_store(s: State) -> Due;
     pub fn paviluko_records(s: State) -> u64;
-    pub fn paviluko_points_kept(s: State) -> u64;
+    pub fn paviluko_points(s: State) -> u64;
 }
 
 /// The header's sizes and offsets.
@@ -218,23 +218,23 @@ const _: () = {
     assert!(size_of::<Table>() == 6144);
     assert!(offset_of!(Table, entries) == 0);
 
-    assert!(size_of::<Journal>() == 1176);
-    assert!(offset_of!(Journal, positions) == 0);
-    assert!(offset_of!(Journal, lanes) == 1024);
-    assert!(offset_of!(Journal, count) == 1152);
-    assert!(offset_of!(Journal, used) == 1160);
-    assert!(offset_of!(Journal, last) == 1168);
+    assert!(size_of::<RecordList>() == 1176);
+    assert!(offset_of!(RecordList, positions) == 0);
+    assert!(offset_of!(RecordList, lanes) == 1024);
+    assert!(offset_of!(RecordList, count) == 1152);
+    assert!(offset_of!(RecordList, used) == 1160);
+    assert!(offset_of!(RecordList, last) == 1168);
 
-    assert!(size_of::<Mark>() == 80);
-    assert!(offset_of!(Mark, position) == 0);
-    assert!(offset_of!(Mark, counts) == 8);
-    assert!(offset_of!(Mark, covered) == 72);
+    assert!(size_of::<PointItem>() == 80);
+    assert!(offset_of!(PointItem, position) == 0);
+    assert!(offset_of!(PointItem, counts) == 8);
+    assert!(offset_of!(PointItem, covered) == 72);
 
-    assert!(size_of::<Marks>() == 664);
-    assert!(offset_of!(Marks, items) == 0);
-    assert!(offset_of!(Marks, count) == 640);
-    assert!(offset_of!(Marks, any) == 648);
-    assert!(offset_of!(Marks, newest) == 656);
+    assert!(size_of::<PointList>() == 664);
+    assert!(offset_of!(PointList, items) == 0);
+    assert!(offset_of!(PointList, count) == 640);
+    assert!(offset_of!(PointList, any) == 648);
+    assert!(offset_of!(PointList, newest) == 656);
 
     assert!(size_of::<Held>() == 160);
     assert!(offset_of!(Held, text) == 0);

@@ -103,7 +103,7 @@ fn from_load_to_recovery() {
     let mut counts = [0; LANES];
     counts[3] = 1;
     assert_eq!((points.count, points.any, points.newest), (1, 1, 11));
-    assert_eq!(points.items[0], ffi::Mark { position: 11, counts, covered: 0 });
+    assert_eq!(points.items[0], ffi::PointItem { position: 11, counts, covered: 0 });
     assert_eq!((c.records(), c.points()), (1, 1));
     assert_eq!(c.truncate(11), Err(Refusal { number: 14, value: 0 }));
     for store in [Store::N { value: 3 }, Store::Checkpoint, Store::S { value: 3 }] {

@@ -25,7 +25,7 @@ static int same_entry(const paviluko_entry *a, const paviluko_entry *b)
            a->lane == b->lane && a->present == b->present;
 }
 
-static int same_mark(const paviluko_mark *a, const paviluko_mark *b)
+static int same_mark(const paviluko_point_item *a, const paviluko_point_item *b)
 {
     return a->position == b->position && memcmp(a->counts, b->counts, sizeof a->counts) == 0 && a->covered == b->covered;
 }
@@ -139,7 +139,7 @@ static paviluko_state fill(void)
         e->lane = (uint8_t)(i % 8);
         e->present = (uint8_t)(i % 2);
     }
-    for (int i = 0; i < PAVILUKO_LISTED; i++) {
+    for (int i = 0; i < PAVILUKO_RECORDS; i++) {
         s.journal.positions[i] = k++;
         s.journal.lanes[i] = (uint8_t)k++;
     }
@@ -178,7 +178,7 @@ static void structs(void)
     CHECK(same_due(&d, &s.due));
     CHECK(paviluko_phase(s) == PAVILUKO_IN_SERVICE);
     CHECK(paviluko_records(s) == 77);
-    CHECK(paviluko_points_kept(s) == 6);
+    CHECK(paviluko_points(s) == 6);
     for (int i = 0; i < PAVILUKO_METERS; i++) {
         paviluko_entry e = paviluko_reading(s, (uint8_t)i);
         CHECK(same_entry(&e, &s.table.entries[i]));
@@ -197,7 +197,7 @@ static void structs(void)
             s.due.position = position ? 1 : 0;
             s.due.second = (uint8_t)second;
             s.phase = (uint8_t)phase;
-            all_refused(&s, PAVILUKO_CONDITION);
+            all_refused(&s, PAVILUKO_REFUSED_CONDITION);
         }
         /* Numbers that no due store has. */
         s = fill();
@@ -205,14 +205,14 @@ static void structs(void)
         s.due.lane = lane ? 5 : 0;
         s.due.position = position ? 1 : 0;
         s.due.second = second ? 2 : 1;
-        all_refused(&s, PAVILUKO_CONDITION);
+        all_refused(&s, PAVILUKO_REFUSED_CONDITION);
     }
     s = fill();
     s.due.kind = 13;
-    all_refused(&s, PAVILUKO_CONDITION);
+    all_refused(&s, PAVILUKO_REFUSED_CONDITION);
     s = fill();
     s.phase = 3;
-    all_refused(&s, PAVILUKO_CONDITION);
+    all_refused(&s, PAVILUKO_REFUSED_CONDITION);
 }
 
 /* ---- a session ---- */
@@ -259,58 +259,58 @@ static void session(void)
     s = was = fill();
     wrong = vault;
     wrong.r[3] = 1;
-    refused(paviluko_do_load(&s, &wrong, key, 16), PAVILUKO_NUMBERS, 0);
-    refused(paviluko_do_load(&s, &vault, NULL, 0), PAVILUKO_LENGTH, 16);
+    refused(paviluko_do_load(&s, &wrong, key, 16), PAVILUKO_REFUSED_NUMBERS, 0);
+    refused(paviluko_do_load(&s, &vault, NULL, 0), PAVILUKO_REFUSED_LENGTH, 16);
     CHECK(same_state(&s, &was));
     paviluko_reply blank = paviluko_load(vault, key, 15);
-    all_refused(&blank.state, PAVILUKO_CONDITION);
+    all_refused(&blank.state, PAVILUKO_REFUSED_CONDITION);
 
     taken(paviluko_do_load(&s, &vault, key, 16), PAVILUKO_STORE_NONE, 0, 0, 0);
     CHECK(s.phase == PAVILUKO_COLD && memcmp(s.key, key, 16) == 0);
     was = s;
-    refused(paviluko_do_recover(&s, NULL, 0, file, PAVILUKO_LOG_MAX + 1, NULL, 0), PAVILUKO_LENGTH, PAVILUKO_LOG_MAX);
-    refused(paviluko_do_recover(&s, file, 1, NULL, 0, NULL, 0), PAVILUKO_CLOSED, 0);
-    refused(paviluko_do_recover(&s, NULL, 0, file, 60, NULL, 0), PAVILUKO_CLOSED, 0);
+    refused(paviluko_do_recover(&s, NULL, 0, file, PAVILUKO_LOG_MAX + 1, NULL, 0), PAVILUKO_REFUSED_LENGTH, PAVILUKO_LOG_MAX);
+    refused(paviluko_do_recover(&s, file, 1, NULL, 0, NULL, 0), PAVILUKO_REFUSED_CLOSED, 0);
+    refused(paviluko_do_recover(&s, NULL, 0, file, 60, NULL, 0), PAVILUKO_REFUSED_CLOSED, 0);
     CHECK(same_state(&s, &was));
     recover(&s, 15);
     CHECK(vault.s == 2 && vault.n == 2 && vault.e == 0);
 
     /* A transaction of lane 2 at position 10. */
     was = s;
-    refused(paviluko_do_accept(&s, transaction, 15, 2, 10), PAVILUKO_TRANSACTION, 0);
-    refused(paviluko_do_accept(&s, NULL, 0, 2, 10), PAVILUKO_TRANSACTION, 0);
-    refused(paviluko_do_accept(&s, transaction, 16, 8, 10), PAVILUKO_LANE, 0);
-    refused(paviluko_do_truncate(&s, 10), PAVILUKO_NO_POINT, 0);
+    refused(paviluko_do_accept(&s, transaction, 15, 2, 10), PAVILUKO_REFUSED_TRANSACTION, 0);
+    refused(paviluko_do_accept(&s, NULL, 0, 2, 10), PAVILUKO_REFUSED_TRANSACTION, 0);
+    refused(paviluko_do_accept(&s, transaction, 16, 8, 10), PAVILUKO_REFUSED_LANE, 0);
+    refused(paviluko_do_truncate(&s, 10), PAVILUKO_REFUSED_NO_POINT, 0);
     CHECK(same_state(&s, &was));
     taken(paviluko_do_accept(&s, transaction, 16, 2, 10), PAVILUKO_STORE_W, 2, 1, 0);
     CHECK(s.due.kind == PAVILUKO_DUE_RECORD && paviluko_records(s) == 1);
     CHECK(s.journal.positions[0] == 10 && s.journal.lanes[0] == 2 && s.journal.used == 1 && s.journal.last == 10);
     CHECK(s.held.len == 16 && s.held.lane == 2 && s.held.position == 10 && memcmp(s.held.text, transaction, 16) == 0);
     was = s;
-    refused(paviluko_do_accept(&s, transaction, 16, 2, 11), PAVILUKO_CONDITION, 0);
-    refused(paviluko_do_seal(&s, out, 55), PAVILUKO_LENGTH, 56);
-    refused(paviluko_do_seal(&s, NULL, 0), PAVILUKO_LENGTH, 56);
+    refused(paviluko_do_accept(&s, transaction, 16, 2, 11), PAVILUKO_REFUSED_CONDITION, 0);
+    refused(paviluko_do_seal(&s, out, 55), PAVILUKO_REFUSED_LENGTH, 56);
+    refused(paviluko_do_seal(&s, NULL, 0), PAVILUKO_REFUSED_LENGTH, 56);
     CHECK(same_state(&s, &was));
     memset(out, 0xaa, sizeof out);
     taken(paviluko_do_seal(&s, out, sizeof out), PAVILUKO_STORE_RECORD, 0, 10, 56);
     CHECK(out[0] == 1 && out[1] == 2 && out[2] == 16 && out[12] == 1 && out[52] == 56 && out[56] == 0xaa);
     was = s;
-    refused(paviluko_do_point(&s, 11), PAVILUKO_UNSEEN, 0);
-    refused(paviluko_do_accept(&s, transaction, 16, 2, 10), PAVILUKO_POSITION, 0);
-    refused(paviluko_do_commit(&s, log_bytes, 55), PAVILUKO_CLOSED, 0);
-    refused(paviluko_do_commit(&s, NULL, 0), PAVILUKO_CLOSED, 0);
+    refused(paviluko_do_point(&s, 11), PAVILUKO_REFUSED_UNSEEN, 0);
+    refused(paviluko_do_accept(&s, transaction, 16, 2, 10), PAVILUKO_REFUSED_POSITION, 0);
+    refused(paviluko_do_commit(&s, log_bytes, 55), PAVILUKO_REFUSED_CLOSED, 0);
+    refused(paviluko_do_commit(&s, NULL, 0), PAVILUKO_REFUSED_CLOSED, 0);
     CHECK(same_state(&s, &was));
     taken(paviluko_do_commit(&s, log_bytes, log_len), PAVILUKO_STORE_V, 2, 1, 0);
     nine(&s);
     was = s;
-    refused(paviluko_do_commit(&s, log_bytes, log_len), PAVILUKO_TURN, 0);
+    refused(paviluko_do_commit(&s, log_bytes, log_len), PAVILUKO_REFUSED_TURN, 0);
     CHECK(same_state(&s, &was));
 
     /* A cut, and back: the record comes from the log. Then one more that is sealed and not committed: 24 calls. */
     memset(&s, 0, sizeof s);
     taken(paviluko_do_load(&s, &vault, key, 16), PAVILUKO_STORE_NONE, 0, 0, 0);
     was = s;
-    refused(paviluko_do_recover(&s, file, sizeof file, NULL, 0, NULL, 0), PAVILUKO_MISSING, 2);
+    refused(paviluko_do_recover(&s, file, sizeof file, NULL, 0, NULL, 0), PAVILUKO_REFUSED_MISSING, 2);
     CHECK(same_state(&s, &was));
     recover(&s, 15);
     nine(&s);
@@ -322,15 +322,15 @@ static void session(void)
 
     /* A point, a checkpoint, and the truncation at the point. */
     taken(paviluko_do_point(&s, 5), PAVILUKO_STORE_NONE, 0, 0, 0);
-    CHECK(paviluko_points_kept(s) == 1 && s.points.any == 1 && s.points.newest == 5);
+    CHECK(paviluko_points(s) == 1 && s.points.any == 1 && s.points.newest == 5);
     CHECK(s.points.items[0].position == 5 && s.points.items[0].covered == 0);
     CHECK(s.points.items[0].counts[2] == 1 && s.points.items[0].counts[7] == 1 && s.points.items[0].counts[0] == 0);
     was = s;
-    refused(paviluko_do_truncate(&s, 5), PAVILUKO_NO_POINT, 0);
+    refused(paviluko_do_truncate(&s, 5), PAVILUKO_REFUSED_NO_POINT, 0);
     CHECK(same_state(&s, &was));
     taken(paviluko_do_checkpoint(&s, NULL, 0), PAVILUKO_STORE_N, 0, 7, 0);
     was = s;
-    refused(paviluko_do_checkpoint(&s, out, sizeof out - 1), PAVILUKO_LENGTH, PAVILUKO_CHECKPOINT_LEN);
+    refused(paviluko_do_checkpoint(&s, out, sizeof out - 1), PAVILUKO_REFUSED_LENGTH, PAVILUKO_CHECKPOINT_LEN);
     CHECK(same_state(&s, &was));
     taken(paviluko_do_checkpoint(&s, out, sizeof out), PAVILUKO_STORE_FILE, 0, 0, PAVILUKO_CHECKPOINT_LEN);
     CHECK(out[0] == 2 && out[4] == 7 && out[12] == 7);
@@ -341,10 +341,10 @@ static void session(void)
         CHECK(s.due.position == 5 && s.due.lane == (lane + 1) % 8);
     }
     was = s;
-    refused(paviluko_do_truncate(&s, 6), PAVILUKO_CONDITION, 0);
+    refused(paviluko_do_truncate(&s, 6), PAVILUKO_REFUSED_CONDITION, 0);
     CHECK(same_state(&s, &was));
     taken(paviluko_do_truncate(&s, 5), PAVILUKO_STORE_DELETE, 0, 5, 0);
-    CHECK(paviluko_points_kept(s) == 0 && s.due.kind == PAVILUKO_DUE_NOTHING);
+    CHECK(paviluko_points(s) == 0 && s.due.kind == PAVILUKO_DUE_NOTHING);
     nine(&s);
 }
 

@@ -93,7 +93,7 @@ static int same_state(const paviluko_state *a, const paviluko_state *b)
         return 0;
     }
     for (int i = 0; i < PAVILUKO_POINTS; i++) {
-        const paviluko_mark *x = &a->points.items[i], *y = &b->points.items[i];
+        const paviluko_point_item *x = &a->points.items[i], *y = &b->points.items[i];
         if (x->position != y->position || memcmp(x->counts, y->counts, sizeof x->counts) || x->covered != y->covered) {
             return 0;
         }
@@ -128,7 +128,7 @@ static void change(paviluko_state *s)
     case 2: s->due.lane = (uint8_t)number(); break;
     case 3: s->due.second = (uint8_t)below(3); break;
     case 4: s->due.position = number(); break;
-    case 5: s->journal.count = below(2) ? PAVILUKO_LISTED - 1 + below(3) : number(); break;
+    case 5: s->journal.count = below(2) ? PAVILUKO_RECORDS - 1 + below(3) : number(); break;
     case 6: s->points.count = below(2) ? PAVILUKO_POINTS - 1 + below(3) : number(); break;
     case 7: s->held.len = below(2) ? below(200) : number(); break;
     case 8: s->held.lane = (uint8_t)number(); break;
@@ -160,7 +160,7 @@ static void look(const char *name, const paviluko_state *s, const paviluko_reply
     if (wanted && said->number != wanted) {
         wrong(name, "another answer was wanted", said);
     }
-    if (said->number > PAVILUKO_UNSEEN || said->store > PAVILUKO_STORE_EMPTY) {
+    if (said->number > PAVILUKO_REFUSED_UNSEEN || said->store > PAVILUKO_STORE_EMPTY) {
         wrong(name, "no such answer", said);
     }
     if (said->number) {
@@ -254,7 +254,7 @@ static void every(const paviluko_state *s, const uint8_t *record, size_t record_
     calls += 6;
     if (entry.stamp != s->table.entries[meter].stamp || !same_vault(&numbers, &s->vault) || due.kind != s->due.kind ||
         paviluko_phase(*s) != s->phase || paviluko_records(*s) != s->journal.count ||
-        paviluko_points_kept(*s) != s->points.count) {
+        paviluko_points(*s) != s->points.count) {
         fprintf(stderr, "a field is not what stands in the state\n");
         exit(1);
     }
@@ -278,7 +278,7 @@ static void loads(const uint8_t *record, size_t record_len)
     }
     paviluko_reply r = paviluko_load(x, key, len);
     look("load", NULL, &r, &none, &none, 0, 0);
-    every(&r.state, record, record_len, r.said.number ? PAVILUKO_CONDITION : 0);
+    every(&r.state, record, record_len, r.said.number ? PAVILUKO_REFUSED_CONDITION : 0);
     free(key);
 }
 
@@ -357,7 +357,7 @@ int main(int argc, char **argv)
     for (long round = 0; round < rounds; round++) {
         paviluko_state s;
         random_state(&s);
-        every(&s, record, record_len, PAVILUKO_CONDITION);
+        every(&s, record, record_len, PAVILUKO_REFUSED_CONDITION);
         loads(record, record_len);
         every(&good[below(states)], record, record_len, 0);
         for (int i = 0; i < 3; i++) {
@@ -372,11 +372,11 @@ int main(int argc, char **argv)
     /* A log that is too long is not read: only its length is looked at. */
     uint8_t one = 0;
     paviluko_reply r = paviluko_recover(good[0], &one, 0, &one, PAVILUKO_LOG_MAX + 1, &one, 1);
-    look("recover", &good[0], &r, &one, &one, 1, PAVILUKO_LENGTH);
+    look("recover", &good[0], &r, &one, &one, 1, PAVILUKO_REFUSED_LENGTH);
     /* A whole log of zeros. */
     uint8_t *zeros = calloc(PAVILUKO_LOG_MAX, 1);
     r = paviluko_recover(good[0], &one, 0, zeros, PAVILUKO_LOG_MAX, &one, 1);
-    look("recover", &good[0], &r, &one, &one, 1, PAVILUKO_CLOSED);
+    look("recover", &good[0], &r, &one, &one, 1, PAVILUKO_REFUSED_CLOSED);
     free(zeros);
     free(record);
 

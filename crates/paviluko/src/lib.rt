@@ -193,7 +193,7 @@ pub extern "C" fn paviluko_records(s: FlatState) -> u64
 
 // How many points are kept, of the 8 that may be.
 #[no_mangle]
-pub extern "C" fn paviluko_points_kept(s: FlatState) -> u64
+pub extern "C" fn paviluko_points(s: FlatState) -> u64
     ensures { λ r. ⌜ r ≡ s .points .count ⌝ }
 {
     s.points.count as u64
