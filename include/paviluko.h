@@ -1,4 +1,5 @@
-/* Paviluko: the sealed log of a submeter collector. The C interface of target/staticlib/libpaviluko.a, for x86-64.
+/* Paviluko: the sealed log of a submeter collector. The C interface of libpaviluko.a, for x86-64 with the System V calling
+ * convention. C99, C11 or C++. examples/firmware.c is a complete small host.
  *
  * THE LIFE OF A COLLECTOR
  *
@@ -11,7 +12,7 @@
  *   accept       a transaction is given the next number of its lane                           names W
  *   seal         the sealed record of that transaction                                        names the record
  *   commit       the record, read back from the card, enters the table of latest readings     names V
- *   point        marks a position below which every accepted record is committed              names nothing
+ *   point        sets a position below which every accepted record is committed               names nothing
  *   checkpoint   3 calls seal the whole table into a file                                     names N, the file, S
  *   truncate     9 calls give up the records below a covered point                            names R of 8 lanes, the deletion
  *
@@ -22,22 +23,46 @@
  *
  * A POWER CUT keeps vault and card and loses the state. The store named last is then wholly done or not done; either is
  * fine. Start again with load, given the vault's own numbers, and recover, given the checkpoint file of version S (none
- * while S is 0) and the log records end to end in order of position.
+ * while S is 0) and the log records end to end in order of position. A STORE THAT FAILS IS A CUT: if the host cannot carry
+ * out the store that was named, it makes no other call with that state, and starts again with load and recover.
+ *
+ * WHICH FILE. A checkpoint file has version S + 1 at the time when it is named: S, stored next, then names it. The version is
+ * bytes 4 to 11 of the file, the seal number bytes 12 to 19, little-endian. After a cut, hand over the file whose version is
+ * the vault's S; if a cut between the file and S left two of one version, either is right. Files are written beside the older
+ * ones. Those of a version below S may be deleted once S is stored, and not before: no later recovery asks for them, since S
+ * never falls.
+ *
+ * POSITIONS are the host's: any rising numbers, 0 among them. They start anew whenever a recovery ends, for it empties the log.
  *
  * A CALL THAT IS TURNED DOWN returns one of the numbers 1 to 15. It hands back the state that came, leaves every buffer as
  * it was, and names no store: the host may simply go on. Where several causes hold, the lowest number is returned.
+ * If commit says 9 to a record read back from the card, read it again and call again; if it says 9 again, the card has not
+ * kept the record: load and recover. The number is then given up, and the transaction is accepted anew. (10 and 11 mean that
+ * another record was handed over than the one that is next in its lane.)
  *
- * WHAT IS PROVED. Each function below returns, for every argument, what the definitions in crates/protocol/specs say; see
- * crates/paviluko/src/lib.rt for the promises and docs/ARCHITECTURE.md for the theorem about whole histories.
+ * WHAT IS PROVED. Each function below returns, for every argument, what the definitions in crates/protocol/specs say (the
+ * promises stand in crates/paviluko/src/lib.rt); and of any run of these calls with cuts, whatever card is handed over, that
+ * the table of an accepted recovery is the latest reading of every meter, and that a card that kept faith is accepted
+ * (crates/boundary/specs/Claim.antt; docs/ARCHITECTURE.md has it in words).
+ *
+ * BUFFERS MUST NOT CHANGE DURING A CALL. What a call is lent, nobody else writes until it returns: no other thread, no
+ * interrupt, no DMA, no card that is mapped into memory. A call reads its input more than once, and bytes that change between
+ * checking and using were never checked. Copy mapped card memory into RAM, and hand over the copy.
+ *
+ * POINTERS. The functions want a valid address for each buffer, even for one of length 0; in the paviluko_do_ functions a NULL
+ * buffer is one of length 0, whatever length stands beside it. `out` must not overlap another buffer of the same call.
  *
  * MEMORY AND THREADS. There is no heap, no global and no hidden state: the functions are re-entrant, and no pointer outlives
  * its call. State and reply are some 8 KB each and are passed by value, so a call needs stack. Measured (bench/stack.c), state
  * and reply among it: load 27 KB, accept 31, truncate 32, point 40, commit 47, seal 52, checkpoint 72, recover 105, the
- * questions at the end 23. PAVILUKO_STACK leaves room beyond the deepest of them. The paviluko_do_ functions at the end of
+ * questions at the end 15. PAVILUKO_STACK leaves room beyond the deepest of them. The paviluko_do_ functions at the end of
  * this file take a pointer to the state instead, and write the next state back.
  *
- * POINTERS. The functions want a valid address for each buffer, even for one of length 0; the paviluko_do_ functions take
- * NULL with length 0 as well. `out` must not overlap another buffer of the same call.
+ * THE KEY. A state holds the key; paviluko_clear wipes one that is no longer needed. The stack that a call used may hold copies
+ * of the state, the key and plain readings until something else is written there, and so may the replies that were returned by
+ * value. A host that minds makes its calls on a stack of its own (a task's), of PAVILUKO_STACK bytes and its own need, and
+ * clears that memory afterwards; or it calls, from where it made the call, a function that is not inlined and writes zeros to
+ * a volatile array of PAVILUKO_STACK bytes (examples/firmware.c has one).
  */
 #ifndef PAVILUKO_H
 #define PAVILUKO_H
@@ -45,12 +70,25 @@
 #include <stddef.h>
 #include <stdint.h>
 
+#if !defined(__x86_64__) || defined(__ILP32__) || defined(_WIN32)
+#error "libpaviluko.a is for x86-64 with the System V calling convention and 64-bit pointers"
+#endif
+
 #ifdef __cplusplus
 #define PAVILUKO_ASSERT(test, text) static_assert(test, text)
 extern "C" {
-#else
+#elif defined(__STDC_VERSION__) && __STDC_VERSION__ >= 201112L
 #define PAVILUKO_ASSERT(test, text) _Static_assert(test, text)
+#else
+#define PAVILUKO_ASSERT(test, text) extern const char paviluko_assert[(test) ? 1 : -1]
 #endif
+
+/* ---- the edition ----
+ * How many of the requests of document 02 this interface has: each one raises it. The library says its own, so that a program
+ * can tell whether header and archive belong together. Both are printed where the library is built, with a hash of its sources. */
+
+#define PAVILUKO_EDITION 0
+uint64_t paviluko_edition(void);
 
 /* ---- numbers and lengths ---- */
 
@@ -74,8 +112,8 @@ extern "C" {
 /* Stack to keep free for a call. */
 #define PAVILUKO_STACK 131072
 
-/* paviluko_state.phase */
-enum { PAVILUKO_COLD = 0, PAVILUKO_RECOVERING = 1, PAVILUKO_IN_SERVICE = 2 };
+/* paviluko_state.phase. None is 0: a state of zeros is no state, and every call on it is turned down with 1. */
+enum { PAVILUKO_COLD = 1, PAVILUKO_RECOVERING = 2, PAVILUKO_IN_SERVICE = 3 };
 
 /* paviluko_due.kind: the store that the next call names. In brackets the fields that the kind uses; the others are 0. */
 enum {
@@ -130,8 +168,10 @@ enum {
 };
 
 /* ---- structs ----
- * A byte marked "0 or 1" must hold 0 or 1. States come from the functions below and go back to them: read a state's fields
- * freely, but do not make or change one. It holds the key, so keep it out of reach. */
+ * States come from the functions below and go back to them: read a state's fields freely, but do not make or change one, and
+ * take none from a card or a line. A flag byte, marked "0 or 1", must hold 0 or 1: the functions leave nothing else there, and
+ * nothing is promised of a state with another. Padding bytes are nobody's: they may hold anything, so compare states field by
+ * field, and never with memcmp. A state holds the key: keep it out of reach. */
 
 /* The vault's 27 numbers, all 0 when new. Per lane: w numbers handed out, v numbers visible, r numbers truncated; the epoch
  * e, the checkpoint version s, the checkpoint seal number n. */
@@ -225,7 +265,6 @@ typedef struct {
     paviluko_said said;
 } paviluko_reply;
 
-PAVILUKO_ASSERT(sizeof(size_t) == 8, "x86-64");
 PAVILUKO_ASSERT(sizeof(paviluko_vault) == 216, "layout of paviluko_vault");
 PAVILUKO_ASSERT(offsetof(paviluko_vault, e) == 192, "layout of paviluko_vault");
 PAVILUKO_ASSERT(sizeof(paviluko_entry) == 24, "layout of paviluko_entry");
@@ -322,8 +361,8 @@ uint64_t paviluko_points(paviluko_state s);
 #endif
 
 /* ---- the same with the state behind a pointer ----
- * Each calls the function of its name with *s, writes the next state to *s, and returns what was said. NULL may stand for a
- * buffer of length 0. */
+ * Each calls the function of its name with *s, writes the next state to *s, and returns what was said. A NULL buffer is one of
+ * length 0, whatever length stands beside it. s and x are never NULL. */
 
 static inline const uint8_t *paviluko_some(const uint8_t *p)
 {
@@ -331,10 +370,15 @@ static inline const uint8_t *paviluko_some(const uint8_t *p)
     return p ? p : &none;
 }
 
+static inline size_t paviluko_len(const uint8_t *p, size_t len)
+{
+    return p ? len : 0;
+}
+
 /* A load that is turned down leaves *s as it was. */
 static inline paviluko_said paviluko_do_load(paviluko_state *s, const paviluko_vault *x, const uint8_t *key, size_t key_len)
 {
-    paviluko_reply r = paviluko_load(*x, paviluko_some(key), key_len);
+    paviluko_reply r = paviluko_load(*x, paviluko_some(key), paviluko_len(key, key_len));
     if (r.said.number == PAVILUKO_TAKEN) {
         *s = r.state;
     }
@@ -344,7 +388,7 @@ static inline paviluko_said paviluko_do_load(paviluko_state *s, const paviluko_v
 static inline paviluko_said paviluko_do_accept(paviluko_state *s, const uint8_t *transaction, size_t len, uint8_t lane,
                                                uint64_t position)
 {
-    paviluko_reply r = paviluko_accept(*s, paviluko_some(transaction), len, lane, position);
+    paviluko_reply r = paviluko_accept(*s, paviluko_some(transaction), paviluko_len(transaction, len), lane, position);
     *s = r.state;
     return r.said;
 }
@@ -352,14 +396,14 @@ static inline paviluko_said paviluko_do_accept(paviluko_state *s, const uint8_t 
 static inline paviluko_said paviluko_do_seal(paviluko_state *s, uint8_t *out, size_t room)
 {
     uint8_t none = 0;
-    paviluko_reply r = paviluko_seal(*s, out ? out : &none, out ? room : 0);
+    paviluko_reply r = paviluko_seal(*s, out ? out : &none, paviluko_len(out, room));
     *s = r.state;
     return r.said;
 }
 
 static inline paviluko_said paviluko_do_commit(paviluko_state *s, const uint8_t *record, size_t len)
 {
-    paviluko_reply r = paviluko_commit(*s, paviluko_some(record), len);
+    paviluko_reply r = paviluko_commit(*s, paviluko_some(record), paviluko_len(record, len));
     *s = r.state;
     return r.said;
 }
@@ -374,7 +418,7 @@ static inline paviluko_said paviluko_do_point(paviluko_state *s, uint64_t positi
 static inline paviluko_said paviluko_do_checkpoint(paviluko_state *s, uint8_t *out, size_t room)
 {
     uint8_t none = 0;
-    paviluko_reply r = paviluko_checkpoint(*s, out ? out : &none, out ? room : 0);
+    paviluko_reply r = paviluko_checkpoint(*s, out ? out : &none, paviluko_len(out, room));
     *s = r.state;
     return r.said;
 }
@@ -390,10 +434,22 @@ static inline paviluko_said paviluko_do_recover(paviluko_state *s, const uint8_t
                                                 const uint8_t *log, size_t log_len, uint8_t *out, size_t room)
 {
     uint8_t none = 0;
-    paviluko_reply r = paviluko_recover(*s, paviluko_some(checkpoint), checkpoint_len, paviluko_some(log), log_len,
-                                        out ? out : &none, out ? room : 0);
+    paviluko_reply r = paviluko_recover(*s, paviluko_some(checkpoint), paviluko_len(checkpoint, checkpoint_len),
+                                        paviluko_some(log), paviluko_len(log, log_len), out ? out : &none,
+                                        paviluko_len(out, room));
     *s = r.state;
     return r.said;
+}
+
+/* Wipes a state, padding and all; the compiler keeps every write. What is left is no state: every call on it is turned down
+ * with 1. */
+static inline void paviluko_clear(paviluko_state *s)
+{
+    volatile uint8_t *bytes = (volatile uint8_t *)s;
+    size_t i;
+    for (i = 0; i < sizeof *s; i++) {
+        bytes[i] = 0;
+    }
 }
 
 #undef PAVILUKO_ASSERT

@@ -54,12 +54,22 @@ pub fn due_of(raw: &RawDue) -> Due {
     }
 }
 
+/// The code of a phase.
+pub fn phase_code(phase: Phase) -> u8 {
+    match phase {
+        Phase::Cold => 1,
+        Phase::Recovering => 2,
+        Phase::InService => 3,
+        Phase::Unknown => 0,
+    }
+}
+
 /// What the code of a phase means.
 pub fn phase_of(code: u8) -> Phase {
     match code {
-        0 => Phase::Cold,
-        1 => Phase::Recovering,
-        2 => Phase::InService,
+        1 => Phase::Cold,
+        2 => Phase::Recovering,
+        3 => Phase::InService,
         _ => Phase::Unknown,
     }
 }
@@ -120,12 +130,7 @@ impl Raw {
             held_lane: held.lane,
             held_position: held.position,
             key: *model.cipher.key(),
-            phase: match model.phase {
-                Phase::Cold => 0,
-                Phase::Recovering => 1,
-                Phase::InService => 2,
-                Phase::Unknown => 3,
-            },
+            phase: phase_code(model.phase),
         }
     }
 

@@ -2,10 +2,10 @@
 
 use std::rc::Rc;
 
-use paviluko_model::{Listed, Model, Params};
+use paviluko_model::{Listed, Model, Params, Phase};
 
 use crate::host::{Host, Style};
-use crate::raw::{Raw, RawDue};
+use crate::raw::{Raw, RawDue, phase_code};
 use crate::rng::Rng;
 use crate::values::{a_table, a_transaction, any_vault, lane, number_in, odd_number};
 
@@ -17,7 +17,7 @@ fn service(host: &mut Host) -> Raw {
         vault = any_vault(rng, params);
     }
     let mut raw = Raw::of(&Model::cold(params, &vault, Rc::clone(cipher)));
-    raw.phase = 2;
+    raw.phase = phase_code(Phase::InService);
     raw.entries = a_table(rng, params).entries;
     rising_points(rng, params, &mut raw);
     rising_records(rng, params, &mut raw);
@@ -60,7 +60,7 @@ pub fn odd(host: &mut Host, model: Option<&Model>) -> Raw {
     let Host { rng, params, .. } = host;
     for _ in 0..rng.below(4) {
         match rng.below(15) {
-            0 => raw.phase = if rng.permille(800) { rng.below(3) as u8 } else { rng.any() as u8 },
+            0 => raw.phase = if rng.permille(800) { rng.below(4) as u8 } else { rng.any() as u8 },
             1..=3 => {
                 // Any due store, in the phase that it is for or another.
                 let kind = if rng.permille(900) { rng.below(14) as u8 } else { rng.any() as u8 };
@@ -70,7 +70,7 @@ pub fn odd(host: &mut Host, model: Option<&Model>) -> Raw {
                 let position = if matches!(kind, 4 | 5) { point.unwrap_or_else(|| rng.below(30)) } else { 0 };
                 raw.due = RawDue { position, kind, lane, second };
                 if rng.permille(850) {
-                    raw.phase = if kind < 6 { 2 } else { 1 };
+                    raw.phase = phase_code(if kind < 6 { Phase::InService } else { Phase::Recovering });
                 }
             }
             4 => {

@@ -102,7 +102,7 @@ impl std::error::Error for Refusal {}
 #[derive(Clone, Copy, Debug, PartialEq, Eq)]
 pub enum Phase {
     /// Loaded; only Recover (or another Load) is taken.
-    Cold,
+    Cold = 1,
     /// Recovery was accepted and has stores left.
     Recovering,
     /// Open for everything but Recover.
@@ -336,8 +336,8 @@ impl Collector {
     pub fn phase(&self) -> Phase {
         // SAFETY: nothing is lent.
         match unsafe { ffi::paviluko_phase(*self.state) } {
-            0 => Phase::Cold,
-            1 => Phase::Recovering,
+            1 => Phase::Cold,
+            2 => Phase::Recovering,
             _ => Phase::InService,
         }
     }

@@ -138,7 +138,7 @@ pub struct State {
     pub held: Held,
     /// The key.
     pub key: [u8; KEY_LEN],
-    /// 0 cold, 1 recovering, 2 in service.
+    /// 1 cold, 2 recovering, 3 in service; so zeros are no state.
     pub phase: u8,
 }
 
@@ -169,6 +169,7 @@ pub struct Reply {
 }
 
 unsafe extern "C" {
+    pub fn paviluko_edition() -> u64;
     pub fn paviluko_load(x: Vault, key: *const u8, key_len: usize) -> Reply;
     pub fn paviluko_accept(s: State, transaction: *const u8, len: usize, lane: u8, position: u64) -> Reply;
     pub fn paviluko_seal(s: State, out: *mut u8, room: usize) -> Reply;

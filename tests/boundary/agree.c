@@ -189,7 +189,7 @@ static void structs(void)
         int lane = kind == 4 || kind == 9 || kind == 11;
         int position = kind == 4 || kind == 5;
         int second = kind == 6 || kind == 7;
-        for (int phase = 0; phase <= 2; phase++) {
+        for (int phase = PAVILUKO_COLD; phase <= PAVILUKO_IN_SERVICE; phase++) {
             s = fill();
             s.vault.v[0] = s.vault.w[0] + 1;
             s.due.kind = (uint8_t)kind;
@@ -211,7 +211,7 @@ static void structs(void)
     s.due.kind = 13;
     all_refused(&s, PAVILUKO_REFUSED_CONDITION);
     s = fill();
-    s.phase = 3;
+    s.phase = PAVILUKO_IN_SERVICE + 1;
     all_refused(&s, PAVILUKO_REFUSED_CONDITION);
 }
 

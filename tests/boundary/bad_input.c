@@ -123,7 +123,7 @@ static void change(paviluko_state *s)
 {
     int lane = (int)below(PAVILUKO_LANES), point = (int)below(PAVILUKO_POINTS);
     switch (below(16)) {
-    case 0: s->phase = (uint8_t)(below(2) ? below(4) : any()); break;
+    case 0: s->phase = (uint8_t)(below(2) ? below(5) : any()); break;
     case 1: s->due.kind = (uint8_t)(below(4) ? below(14) : any()); break;
     case 2: s->due.lane = (uint8_t)number(); break;
     case 3: s->due.second = (uint8_t)below(3); break;

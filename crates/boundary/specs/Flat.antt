@@ -1,4 +1,4 @@
--- The state as plain numbers: kinds of a due store 0 to 12, phases 0 to 2.
+-- The state as plain numbers: kinds of a due store 0 to 12, phases 1 to 3. A state of zeros is none: no phase is 0.
 -- Assumes nothing.
 use Prim.Native.Nat.{ℕ}
 use mathlib.Core.Bool.{Bool, cond, _&&_}
@@ -63,13 +63,13 @@ dueKnown d = sameDue (dueNumbers (dueOf d)) d
 -- ---- the phase
 
 unfoldable pub phaseNumber : Phase → ℕ
-phaseNumber F.Cold = 0
-phaseNumber F.Recovering = 1
-phaseNumber F.Serving = 2
+phaseNumber F.Cold = 1
+phaseNumber F.Recovering = 2
+phaseNumber F.Serving = 3
 
--- the phase of a number; cold where it is neither 1 nor 2
+-- the phase of a number; cold where it is neither 2 nor 3
 unfoldable pub phaseOf : ℕ → Phase
-phaseOf p = cond (eqb p 1) F.Recovering (cond (eqb p 2) F.Serving F.Cold)
+phaseOf p = cond (eqb p 2) F.Recovering (cond (eqb p 3) F.Serving F.Cold)
 
 unfoldable pub phaseKnown : ℕ → Bool
 phaseKnown p = eqb (phaseNumber (phaseOf p)) p

@@ -27,6 +27,9 @@ use protocol::TruncateStep;
 use protocol::Vault;
 use table::Table;
 
+// The edition of the C interface: how many of the requests of document 02 it has.
+pub const EDITION: u64 = 0;
+
 // The store that is due: its kind, and the position, the lane and the checkpoint (0 the first, 1 the second) of a kind that
 // has them. What a kind does not have is 0.
 #[repr(C)]
@@ -37,7 +40,7 @@ pub struct DueNumbers {
     pub second: u8,
 }
 
-// The state. Phase 0 is cold, 1 recovering, 2 in service.
+// The state. Phase 1 is cold, 2 recovering, 3 in service; so zeros are no state.
 #[repr(C)]
 pub struct FlatState {
     pub vault: Vault,
@@ -211,10 +214,10 @@ pub fn due_numbers(d: Due) -> DueNumbers
 pub fn phase_of(p: u8) -> Phase
     ensures { λ r. ⌜ r ≡ phaseOf p ⌝ }
 {
-    if p == 1 {
+    if p == 2 {
         return Phase::Recovering;
     }
-    if p == 2 {
+    if p == 3 {
         return Phase::Serving;
     }
     Phase::Cold
@@ -225,9 +228,9 @@ pub fn phase_number(p: Phase) -> u8
     ensures { λ r. ⌜ r ≡ phaseNumber p ⌝ }
 {
     match p {
-        Phase::Cold => 0,
-        Phase::Recovering => 1,
-        Phase::Serving => 2,
+        Phase::Cold => 1,
+        Phase::Recovering => 2,
+        Phase::Serving => 3,
     }
 }
 

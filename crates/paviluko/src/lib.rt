@@ -15,6 +15,7 @@ ghost use Rattle.protocol.specs.Point.{point};
 ghost use Rattle.protocol.specs.Checkpoint.{checkpoint};
 ghost use Rattle.protocol.specs.Truncate.{truncate};
 ghost use Rattle.protocol.specs.Recover.{recover};
+ghost use Rattle.boundary.specs.Edition.{edition};
 ghost use Rattle.boundary.specs.Flat.{thaw};
 ghost use Rattle.boundary.specs.Replies.{replyOf, replyTo, putTo};
 use boundary::DueNumbers;
@@ -150,6 +151,14 @@ pub extern "C" fn paviluko_recover(
 
 // ---- for a host and a screen
 
+// The edition: how many of the requests of document 02 this interface has.
+#[no_mangle]
+pub extern "C" fn paviluko_edition() -> u64
+    ensures { λ r. ⌜ r ≡ edition ⌝ }
+{
+    boundary::EDITION
+}
+
 // The latest reading of a meter, with its code, its stamp, and the lane and number of its transaction.
 #[no_mangle]
 pub extern "C" fn paviluko_reading(s: FlatState, meter: u8) -> Entry
@@ -167,7 +176,7 @@ pub extern "C" fn paviluko_numbers(s: FlatState) -> Vault
     s.vault
 }
 
-// The phase: 0 cold, 1 recovering, 2 in service.
+// The phase: 1 cold, 2 recovering, 3 in service.
 #[no_mangle]
 pub extern "C" fn paviluko_phase(s: FlatState) -> u8
     ensures { λ r. ⌜ r ≡ s .phase ⌝ }
