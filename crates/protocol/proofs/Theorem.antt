@@ -26,7 +26,7 @@ use Rattle.protocol.specs.Replay.{Read, orStop, replay}
 use Rattle.protocol.specs.Recover.{logMax, spent, recovered, otherVersion, readFile, readFrom, recoverRead, recoverFirst, recoverPhase, recover, inService}
 use Rattle.protocol.specs.LatestOf.{LatestOf}
 use Rattle.protocol.specs.History.{call, callRecover, World, Lasting, settled, done, bookAfter, afterSaid, afterAnswer, answer, answerOf, addsOf, next, isTaken, PutOut, Honest, faithfulLog, FaithfulFile}
-use Rattle.protocol.specs.Beside.{NotLower, longestLog, LogIsShort, NoStoreLowers, Beside}
+use Rattle.protocol.specs.Beside.{longestLog, LogIsShort, Beside}
 use Rattle.protocol.specs.Claim.{TakenUnlessSpent, HasLatest, after, TableIsTheBooks, LatestIsOne, FaithfulCardIsTaken, LoadIsTaken, CardHasAFile, FaithfulCardIsHonest, Demand3}
 use Rattle.protocol.specs.declared.Vault.{Vault}
 use Rattle.protocol.specs.declared.State.{State}
@@ -41,11 +41,12 @@ use Rattle.protocol.proofs.BookLaws.{full-latest, latest-one}
 use Rattle.protocol.proofs.LaidLaws.{laidOut, AllWritable, laid-length, records-laid}
 use Rattle.protocol.proofs.Card.{Spot, recsOf, mem-recs}
 use Rattle.protocol.proofs.Faith.{read-faithful}
-use Rattle.protocol.proofs.Invariant.{Durable, vaultTo, Durably, Cold, LinkedAt, Linked, LinkedIf, Apart, Invariant, GoodSaid, known, At}
+use Rattle.protocol.proofs.Invariant.{Durable, vaultTo, Durably, Cold, LinkedAt, Linked, LinkedIf, Apart, Invariant, known, At}
 use Rattle.protocol.proofs.TallyLaws.{recovery-tally}
 use Rattle.protocol.proofs.ServiceLaws.{vault-ok, accepts, seals, commits, points, keeps, counts, nine, three}
 use Rattle.protocol.proofs.Apart.{mem-map, map-mem, faithful-log}
-use Rattle.protocol.proofs.Runs.{trusted, GoodIf, keep-answer, next-invariant, listed-invariant}
+use Rattle.protocol.proofs.Runs.{next-invariant, listed-invariant}
+use Rattle.protocol.proofs.RiseLaws.{rises, never-falls, older-files}
 
 -- ---- an accepted Recover call leaves no cold state
 
@@ -239,27 +240,6 @@ module _ (key : List ℕ) where
       let i = listed-invariant key es p in
       subst (λ (x : List ℕ). length x ≤ longestLog) (sym (faithful-log key (settled (after key es)) (i .after) (i .apart′) (i .then .card .rising))) (log-short (i .after) (i .then))
 
-  -- ---- no store lowers a vault number
-
-  said-rises : (sa : Said) (a : Lasting) (s : Option State) (adds : Option Opened) (c : State) (put : List ℕ) (d : Durable) → GoodSaid key sa c put adds d → NotLower (d .vault) (afterSaid sa a s adds c put .pending .store)
-  unfolding afterSaid
-  said-rises (refused n vs) a s adds c put d g = tt
-  said-rises (taken st n) a s adds c put d (o, g) = g .rises
-
-  answer-rises : (a : Lasting) (s : Option State) (adds : Option Opened) (r : Option Answered) (d : Durable) → GoodIf key d adds r → NotLower (d .vault) (afterAnswer a s adds r .pending .store)
-  unfolding afterAnswer
-  answer-rises a s adds none d g = tt
-  answer-rises a s adds (some r) d g = said-rises (r .said) a s adds (r .state) (r .put) d g
-
-  pub rises : NoStoreLowers key
-  unfolding next
-  rises es p k h =
-      let w = after key es in
-      let i = listed-invariant key es p in
-      let d = i .after in
-      subst (λ (x : Vault). NotLower x (afterAnswer (settled w) (w .state) (addsOf key k) (answer (w .state) k) .pending .store)) (sym (i .apart′ .vault))
-      (answer-rises (settled w) (w .state) (addsOf key k) (answer (w .state) k) d (keep-answer key (w .state) k d (i .then) (i .link) (trusted key w d k (i .apart′) h)))
-
 -- the longest log, in figures
 pub longest-is : longestLog ≡ 202752
 longest-is = refl
@@ -270,4 +250,4 @@ pub demand-3 : Demand3
 demand-3 key long = record { table-is-the-books = safe key; latest-is-one = one key; faithful-card-is-taken = live key; load-is-taken = loads key long; card-has-a-file = files key; faithful-card-is-honest = honest key }
 
 pub beside : (key : List ℕ) → Beside key
-beside key = record { log-is-short = short key; no-store-lowers = rises key; recovers = recovery-tally; accept-says = accepts key; seals-the-accepted = seals key; commit-takes = commits key; point-says = points key; point-is-kept = keeps key; points-count = counts key; truncates-nine = nine key; checkpoints-three = three key }
+beside key = record { log-is-short = short key; no-store-lowers = rises key; stored-s-never-falls = never-falls key; older-files-may-go = older-files key; recovers = recovery-tally; accept-says = accepts key; seals-the-accepted = seals key; commit-takes = commits key; point-says = points key; point-is-kept = keeps key; points-count = counts key; truncates-nine = nine key; checkpoints-three = three key }

@@ -1,4 +1,5 @@
--- What is said beside demand 3, after any list that keeps to the premises: that the vault's numbers only rise and a faithful log is short, the
+-- What is said beside demand 3, after any list that keeps to the premises: that the vault's numbers only rise, a faithful log is short and older
+-- files may go, the
 -- stores of the longer operations, and 01's sentences on a collector in service. The proofs are in proofs/ServiceLaws.antt and proofs/Theorem.antt.
 -- Assumes nothing.
 use Prim.Native.Nat.{ℕ, suc, _+_, _*_, _≤_, _<_}
@@ -14,7 +15,7 @@ use Rattle.table.specs.Table.{lanes, entered}
 use Rattle.sealed.specs.Aead.{aesGcm}
 use Rattle.sealed.specs.Frame.{frameLen}
 use Rattle.sealed.specs.Record.{Opened, laneOf, numberOf, recordBytes, openRecord}
-use Rattle.sealed.specs.Checkpoint.{fileLen, fileBytes}
+use Rattle.sealed.specs.Checkpoint.{fileLen, versionOf, fileBytes}
 use Rattle.protocol.specs.Vaults.{counterMax}
 use Rattle.protocol.specs.States.{listed, pointsMax}
 use Rattle.protocol.specs.Said.{refused, taken}
@@ -25,7 +26,7 @@ use Rattle.protocol.specs.Checkpoint.{checkpoint}
 use Rattle.protocol.specs.Truncate.{pointsOf, findPoint, truncate}
 use Rattle.protocol.specs.Recover.{recover}
 use Rattle.protocol.specs.Tally.{recoveryStores, truncateStores, checkpointStores, answers, putBy, Names, Serves, Dropped, Covered, Truncates}
-use Rattle.protocol.specs.History.{Call, Event, call, Placed, placedFrom, newWorld, settled, next, isTaken, Honest, faithfulLog}
+use Rattle.protocol.specs.History.{Call, Event, call, Placed, placedFrom, Card, newWorld, settled, next, run, isTaken, Honest, Premises, faithfulLog, FaithfulFile}
 use Rattle.protocol.specs.Since.{Since, nothingSince, sinceRun, anyFrom, standing}
 use Rattle.protocol.specs.Claim.{after, Listed}
 use Rattle.protocol.specs.declared.Vault.{Vault}
@@ -64,6 +65,16 @@ unfoldable pub laneOn : ℕ → List Placed → ℕ
 laneOn l [] = 0
 laneOn l (x ∷ xs) = cond (eqb (laneOf (x .bytes)) l) (suc (laneOn l xs)) (laneOn l xs)
 
+-- of all the files only those of a version below s are not left
+pub record Lacks (s : ℕ) (all left : List (List ℕ)) : Type 0 where
+  pub among : (f : List ℕ) → List·Memᴰ f left → List·Memᴰ f all
+  pub kept : (f : List ℕ) → List·Memᴰ f all → s ≤ versionOf f → List·Memᴰ f left
+
+-- a file is faithful of a card exactly where it is of the card with the files that are left
+pub record SameFaith (s : ℕ) (d : Card) (left : List (List ℕ)) (file : List ℕ) : Type 0 where
+  pub still : FaithfulFile s d file → FaithfulFile s (record { records = d .records; files = left }) file
+  pub only : FaithfulFile s (record { records = d .records; files = left }) file → FaithfulFile s d file
+
 module _ (key : List ℕ) where
   -- ---- the vault and the card
 
@@ -74,6 +85,17 @@ module _ (key : List ℕ) where
   -- the vault's numbers only rise: no store that a call names lowers one
   abbrev pub NoStoreLowers : Type 0
   NoStoreLowers = (es : List Event) → Listed key es → (k : Call) → Honest key (after key es) (call k) → NotLower (settled (after key es) .vault) (next key (after key es) (call k) .pending .store)
+
+  -- the S that is stored never falls, whatever comes after
+  abbrev pub StoredSNeverFalls : Type 0
+  StoredSNeverFalls = (es more : List Event) → Listed key es → Premises key (after key es) more → after key es .lasting .vault .s ≤ run key (after key es) more .lasting .vault .s
+
+  -- so files of an older version may go once S is stored: of a card that has lost only such files a file is faithful exactly where it is of the
+  -- card that has them all, then and whatever comes after
+  abbrev pub OlderFilesMayGo : Type 0
+  OlderFilesMayGo = (es more : List Event) → Listed key es → Premises key (after key es) more
+      → (left : List (List ℕ)) → Lacks (after key es .lasting .vault .s) (settled (run key (after key es) more) .card .files) left
+      → (file : List ℕ) → SameFaith (settled (run key (after key es) more) .vault .s) (settled (run key (after key es) more) .card) left file
 
   -- ---- recovery, from any state
 
@@ -155,6 +177,8 @@ module _ (key : List ℕ) where
   pub record Beside : Type 0 where
     pub log-is-short : LogIsShort
     pub no-store-lowers : NoStoreLowers
+    pub stored-s-never-falls : StoredSNeverFalls
+    pub older-files-may-go : OlderFilesMayGo
     pub recovers : Recovers
     pub accept-says : AcceptSays
     pub seals-the-accepted : SealsTheAccepted
