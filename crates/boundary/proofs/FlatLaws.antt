@@ -88,6 +88,11 @@ pub phase-again : (p : ℕ) → phaseKnown p ≡ true → phaseNumber (phaseOf p
 unfolding phaseKnown
 phase-again p e = eqb-true _ _ e
 
+-- no phase has the number 0
+pub no-phase-0 : phaseKnown 0 ≡ false
+unfolding phaseKnown phaseOf phaseNumber
+no-phase-0 = refl
+
 -- ---- the state
 
 -- what one call hands back is what the next one takes

@@ -6,6 +6,7 @@ use Prim.Native.Nat.{ℕ}
 use mathlib.Core.Path.{_≡_, refl, ap, _∙_}
 use mathlib.Core.Bool.{Bool, true, false, cond}
 use mathlib.Core.List.{List, []}
+use Rattle.octets.proofs.BoolLaws.{and-false}
 use Rattle.protocol.specs.Said.{Said, refused, taken, Answered}
 use Rattle.protocol.specs.Accept.{accept, seal}
 use Rattle.protocol.specs.Commit.{commit}
@@ -18,9 +19,9 @@ use Rattle.protocol.specs.declared.Store.the-variants as S
 use Rattle.protocol.proofs.RefusalLaws.{keptBy, Kept, accept-kept, seal-kept, commit-kept, point-kept, checkpoint-kept, truncate-kept, recover-kept}
 use Rattle.boundary.specs.declared.FlatState.{FlatState}
 use Rattle.boundary.specs.declared.Reply.{Reply}
-use Rattle.boundary.specs.Flat.{known, thaw, freeze}
-use Rattle.boundary.specs.Replies.{named, saidOf, replyOf, notAState, replyTo, putTo}
-use Rattle.boundary.proofs.FlatLaws.{thaw-freeze, freeze-is-known, freeze-thaw}
+use Rattle.boundary.specs.Flat.{dueKnown, knownBy, known, thaw, freeze}
+use Rattle.boundary.specs.Replies.{named, storeOf, saidOf, replyOf, notAState, replyTo, putTo}
+use Rattle.boundary.proofs.FlatLaws.{no-phase-0, thaw-freeze, freeze-is-known, freeze-thaw}
 
 -- ---- the next call
 
@@ -44,6 +45,22 @@ module _ (s : FlatState) (a : Answered) (e : known s ≡ true) where
   pub next-is : thaw (replyTo s a .state) ≡ a .state
   next-is = ap (λ (r : Reply). thaw (r .state)) reply-is ∙ first-is a
 
+-- ---- no state
+
+-- A state with phase 0 is none, so a state of zeros is none: every call hands it back with number 1, and puts nothing out.
+module _ (s : FlatState) (a : Answered) (e : s .phase ≡ 0) where
+  zero-unknown : known s ≡ false
+  unfolding knownBy
+  zero-unknown = rw (e, no-phase-0, and-false (dueKnown (s .due)))
+
+  pub zero-reply : replyTo s a ≡ notAState s
+  unfolding replyTo
+  zero-reply = rw zero-unknown
+
+  pub zero-put : putTo s a ≡ []
+  unfolding putTo
+  zero-put = rw zero-unknown
+
 -- ---- refusals
 
 -- a call that is taken has number 0
@@ -60,6 +77,36 @@ named-0 (S.Record p) n = refl
 named-0 S.File n = refl
 named-0 (S.Delete p) n = refl
 named-0 S.Empty n = refl
+
+-- nothing of a named store is lost in a reply
+pub store-back : (st : Store) (n : ℕ) → storeOf (named st n) ≡ st
+unfolding named storeOf
+store-back S.Nothing n = refl
+store-back (S.W l v) n = refl
+store-back (S.V l v) n = refl
+store-back (S.R l v) n = refl
+store-back (S.E v) n = refl
+store-back (S.S v) n = refl
+store-back (S.N v) n = refl
+store-back (S.Record p) n = refl
+store-back S.File n = refl
+store-back (S.Delete p) n = refl
+store-back S.Empty n = refl
+
+-- and it has how many bytes are put out
+pub len-back : (st : Store) (n : ℕ) → named st n .len ≡ n
+unfolding named
+len-back S.Nothing n = refl
+len-back (S.W l v) n = refl
+len-back (S.V l v) n = refl
+len-back (S.R l v) n = refl
+len-back (S.E v) n = refl
+len-back (S.S v) n = refl
+len-back (S.N v) n = refl
+len-back (S.Record p) n = refl
+len-back S.File n = refl
+len-back (S.Delete p) n = refl
+len-back S.Empty n = refl
 
 -- where the reply has another number, its state is the one that came, and nothing is put out
 pub record AsItCame (s : FlatState) (a : Answered) : Type 0 where

@@ -4,6 +4,7 @@
 use Prim.Native.Nat.{ℕ}
 use mathlib.Core.Bool.{cond}
 use mathlib.Core.List.{List, []}
+use lib.Dec.{eqb}
 use Rattle.octets.specs.Lists.{at}
 use Rattle.protocol.specs.declared.Store.{Store}
 use Rattle.protocol.specs.declared.Store.the-variants as S
@@ -27,6 +28,20 @@ named (S.Record p) n = record { value = p; len = n; number = 0; store = 7; lane 
 named S.File n = record { value = 0; len = n; number = 0; store = 8; lane = 0 }
 named (S.Delete p) n = record { value = p; len = n; number = 0; store = 9; lane = 0 }
 named S.Empty n = record { value = 0; len = n; number = 0; store = 10; lane = 0 }
+
+-- the store that a call says; none where the number is none of 1 to 10
+unfoldable pub storeOf : Said → Store
+storeOf x =
+    cond (eqb (x .store) 1) (S.W (x .lane) (x .value))
+    (cond (eqb (x .store) 2) (S.V (x .lane) (x .value))
+    (cond (eqb (x .store) 3) (S.R (x .lane) (x .value))
+    (cond (eqb (x .store) 4) (S.E (x .value))
+    (cond (eqb (x .store) 5) (S.S (x .value))
+    (cond (eqb (x .store) 6) (S.N (x .value))
+    (cond (eqb (x .store) 7) (S.Record (x .value))
+    (cond (eqb (x .store) 8) S.File
+    (cond (eqb (x .store) 9) (S.Delete (x .value))
+    (cond (eqb (x .store) 10) S.Empty S.Nothing)))))))))
 
 -- what is said: the number and the value returned with it (0 where there is none), or the store
 unfoldable pub saidOf : said.Said → Said

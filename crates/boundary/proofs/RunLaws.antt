@@ -1,0 +1,185 @@
+-- A run over C is the run of the definitions, its state written down in numbers. A state that a call hands back is known and reads as the state
+-- of the definition's answer, its reply names that answer's store, and the first bytes of the buffer are those put out; a call that is turned
+-- down hands back the state that came. So each event takes the one run's world to the other's.
+-- Assumes nothing.
+use Prim.Native.Nat.{ℕ}
+use mathlib.Core.Path.{_≡_, refl, ap, subst, _∙_}
+use mathlib.Core.Bool.{true, false}
+use mathlib.Core.List.{List, [], _∷_, _++_, map}
+use mathlib.Core.Option.{Option, some, none}
+use lib.ListN.{length, take, drop}
+use Rattle.octets.specs.Lists.{putOver}
+use Rattle.sealed.specs.Record.{Opened}
+use Rattle.protocol.specs.Said.{Said, refused, taken, Answered}
+use Rattle.protocol.specs.Load.{load}
+use Rattle.protocol.specs.Accept.{accept, seal}
+use Rattle.protocol.specs.Commit.{commit}
+use Rattle.protocol.specs.Point.{point}
+use Rattle.protocol.specs.Checkpoint.{checkpoint}
+use Rattle.protocol.specs.Truncate.{truncate}
+use Rattle.protocol.specs.Recover.{recover}
+use Rattle.protocol.specs.History as history
+use Rattle.protocol.specs.History.{callLoad, callAccept, callSeal, callCommit, callPoint, callCheckpoint, callTruncate, callRecover, Lasting, answerOf, firstAnswer, answer, addsOf, afterSaid, afterAnswer}
+use Rattle.protocol.specs.declared.Vault.{Vault}
+use Rattle.protocol.specs.declared.State.{State}
+use Rattle.protocol.proofs.RefusalLaws.{keptBy, Kept, accept-kept, seal-kept, commit-kept, point-kept, checkpoint-kept, truncate-kept, recover-kept}
+use Rattle.protocol.proofs.Walks.{walk-load}
+use Rattle.boundary.specs.Flat.{thaw, freeze}
+use Rattle.boundary.specs.Replies.{saidOf, replyOf, replyTo, putTo}
+use Rattle.boundary.specs.Run.{Call, paviluko-accept, paviluko-seal, paviluko-commit, paviluko-point, paviluko-checkpoint, paviluko-truncate, paviluko-recover, Event, paviluko-load, call, cut, Returned, back, returned, loaded, World, asked, eventOf, goesOn, goesBack, behind, behindCall, next, run, flatState, flatWorld, stateless, Premises}
+use Rattle.boundary.specs.declared.FlatState.{FlatState}
+use Rattle.boundary.proofs.FlatLaws.{thaw-freeze, freeze-is-known}
+use Rattle.boundary.proofs.ReplyLaws.{named-0, store-back, len-back}
+use Rattle.boundary.proofs.NumberLaws.{numberedBy, Numbered, other-than-0, load-numbered, accept-numbered, seal-numbered, commit-numbered, point-numbered, checkpoint-numbered, truncate-numbered, recover-numbered}
+
+-- ---- what a call returns
+
+-- the buffer that is lent to a call
+unfoldable pub lent : Call → List ℕ
+lent (paviluko-accept transaction lane position) = []
+lent (paviluko-seal out) = out
+lent (paviluko-commit bytes) = []
+lent (paviluko-point position) = []
+lent (paviluko-checkpoint out) = out
+lent (paviluko-truncate position) = []
+lent (paviluko-recover file log out) = out
+
+-- the answer of the definitions over C, with a buffer lent
+abbrev pub shownOver : Answered → List ℕ → Returned
+shownOver a out = record { reply = replyOf a; out = putOver (a .put) out }
+
+back-is : (c : State) (f : State → Answered) (out : List ℕ) → back (freeze c) (f (thaw (freeze c))) out ≡ shownOver (f c) out
+unfolding replyTo putTo
+back-is c f out = rw (thaw-freeze c, freeze-is-known c)
+
+pub returned-is : (c : State) (k : Call) → returned (freeze c) k ≡ shownOver (answerOf c (asked k)) (lent k)
+unfolding returned asked answerOf lent
+returned-is c (paviluko-accept transaction lane position) = back-is c (λ d. accept d transaction lane position) []
+returned-is c (paviluko-seal out) = back-is c (λ d. seal d (length out)) out
+returned-is c (paviluko-commit bytes) = back-is c (λ d. commit d bytes) []
+returned-is c (paviluko-point position) = back-is c (λ d. point d position) []
+returned-is c (paviluko-checkpoint out) = back-is c (λ d. checkpoint d (length out)) out
+returned-is c (paviluko-truncate position) = back-is c (λ d. truncate d position) []
+returned-is c (paviluko-recover file log out) = back-is c (λ d. recover d file log (length out)) out
+
+pub call-numbered : (c : State) (k : Call) → Numbered (answerOf c (asked k))
+unfolding asked answerOf
+call-numbered c (paviluko-accept transaction lane position) = accept-numbered c transaction lane position
+call-numbered c (paviluko-seal out) = seal-numbered c (length out)
+call-numbered c (paviluko-commit bytes) = commit-numbered c bytes
+call-numbered c (paviluko-point position) = point-numbered c position
+call-numbered c (paviluko-checkpoint out) = checkpoint-numbered c (length out)
+call-numbered c (paviluko-truncate position) = truncate-numbered c position
+call-numbered c (paviluko-recover file log out) = recover-numbered c file log (length out)
+
+call-kept : (c : State) (k : Call) → Kept c (answerOf c (asked k))
+unfolding asked answerOf
+call-kept c (paviluko-accept transaction lane position) = accept-kept c transaction lane position
+call-kept c (paviluko-seal out) = seal-kept c (length out)
+call-kept c (paviluko-commit bytes) = commit-kept c bytes
+call-kept c (paviluko-point position) = point-kept c position
+call-kept c (paviluko-checkpoint out) = checkpoint-kept c (length out)
+call-kept c (paviluko-truncate position) = truncate-kept c position
+call-kept c (paviluko-recover file log out) = recover-kept c file log (length out)
+
+-- a load puts nothing out
+load-none : (x : Vault) (k : List ℕ) → putOver (load x k .put) [] ≡ []
+load-none x k = walk-load (λ (a : Answered). putOver (a .put) [] ≡ []) (λ n vs h. refl) x k refl
+
+-- ---- one event
+
+-- the first bytes of the buffer are those put out
+take-put : (put rest : List ℕ) → take (length put) (put ++ rest) ≡ put
+take-put [] rest = refl
+take-put (x ∷ put) rest = ap (λ (l : List ℕ). x ∷ l) (take-put put rest)
+
+-- where the call is turned down, the host goes on with the state that there was
+abbrev GoesBack : Said → Option State → Option FlatState → Type 0
+GoesBack (refused n vs) before s = s ≡ flatState before
+GoesBack (taken st n) before s = Unit {0}
+
+behind-is : (x : Said) (c : State) (put out : List ℕ) (d : Lasting) (adds : Option Opened) (before : Option State) (s : Option FlatState) → numberedBy x put → GoesBack x before s
+    → behind d adds (record { reply = record { state = freeze c; said = saidOf x }; out = putOver put out }) s ≡ flatWorld (afterSaid x d before adds c put)
+unfolding numberedBy saidOf behind goesOn goesBack flatWorld flatState afterSaid
+behind-is (refused n vs) c put out d adds before s h e = rw (other-than-0 n h, e)
+behind-is (taken st n) c put out d adds before s h e = rw (store-back st n, len-back st n, thaw-freeze c, h, take-put put (drop (length put) out), named-0 st (length put))
+
+-- a load hands back no state to go on with, where it is turned down
+load-back : (x : Said) (before : Option State) → GoesBack x before (flatState before)
+load-back (refused n vs) before = refl
+load-back (taken st n) before = tt
+
+-- a call hands back the state that came
+call-back : (x : Said) (c d : State) (put : List ℕ) → keptBy x c d put → GoesBack x (some c) (some (freeze d))
+unfolding keptBy flatState
+call-back (refused n vs) c d put h = ap (λ (y : State). some (freeze y)) (h .0)
+call-back (taken st n) c d put h = tt
+
+module _ (key : List ℕ) where
+  load-said : (d : Lasting) (x : Vault) (k : List ℕ) (before : Option State)
+      → behind d none (loaded x k) (flatState before) ≡ flatWorld (afterSaid (load x k .said) d before none (load x k .state) (load x k .put))
+  unfolding replyOf
+  load-said d x k before =
+      subst (λ (out : List ℕ). behind d none (record { reply = replyOf (load x k); out = out }) (flatState before) ≡ flatWorld (afterSaid (load x k .said) d before none (load x k .state) (load x k .put))) (load-none x k)
+      (behind-is (load x k .said) (load x k .state) (load x k .put) [] d none before (flatState before) (load-numbered x k .by) (load-back (load x k .said) before))
+
+  load-is : (d : Lasting) (x : Vault) (k : List ℕ) (before : Option State) → behind d none (loaded x k) (flatState before) ≡ flatWorld (afterAnswer d before none (answer before (callLoad x k)))
+  unfolding afterAnswer answer answerOf firstAnswer
+  load-is d x k none = load-said d x k none
+  load-is d x k (some c) = load-said d x k (some c)
+
+  -- a call on a state
+  call-some : (d : Lasting) (k : Call) (c : State) (a : Answered) (adds : Option Opened) (out : List ℕ) → Numbered a → Kept c a
+      → behind d adds (shownOver a out) (some (replyOf a .state)) ≡ flatWorld (afterSaid (a .said) d (some c) adds (a .state) (a .put))
+  unfolding replyOf
+  call-some d k c a adds out n h = behind-is (a .said) (a .state) (a .put) out d adds (some c) (some (freeze (a .state))) (n .by) (call-back (a .said) c (a .state) (a .put) (h .by))
+
+  -- without a state, none of the seven
+  not-first : (k : Call) → firstAnswer (asked k) ≡ none
+  unfolding firstAnswer asked
+  not-first (paviluko-accept transaction lane position) = refl
+  not-first (paviluko-seal out) = refl
+  not-first (paviluko-commit bytes) = refl
+  not-first (paviluko-point position) = refl
+  not-first (paviluko-checkpoint out) = refl
+  not-first (paviluko-truncate position) = refl
+  not-first (paviluko-recover file log out) = refl
+
+  call-is : (d : Lasting) (k : Call) (before : Option State) → behindCall key d k (flatState before) ≡ flatWorld (afterAnswer d before (addsOf key (asked k)) (answer before (asked k)))
+  unfolding behindCall afterAnswer answer flatState flatWorld goesBack
+  call-is d k none = rw (not-first k)
+  call-is d k (some c) =
+      ap (λ (r : Returned). behind d (addsOf key (asked k)) r (some (r .reply .state))) (returned-is c k)
+      ∙ call-some d k c (answerOf c (asked k)) (addsOf key (asked k)) (lent k) (call-numbered c k) (call-kept c k)
+
+  pub next-is : (w : history.World) (e : Event) → next key (flatWorld w) e ≡ flatWorld (history.next key w (eventOf e))
+  unfolding next eventOf history.next flatWorld flatState goesBack addsOf
+  next-is w (paviluko-load x k) = load-is (history.settled w) x k (w .state)
+  next-is w (call k) = call-is (history.settled w) k (w .state)
+  next-is w (cut true) = refl
+  next-is w (cut false) = refl
+
+  pub run-is : (es : List Event) (w : history.World) → run key (flatWorld w) es ≡ flatWorld (history.run key w (map eventOf es))
+  unfolding run history.run
+  run-is [] w = refl
+  run-is (e ∷ es) w = ap (λ (x : World). run key x es) (next-is w e) ∙ run-is es (history.next key w (eventOf e))
+
+  -- ---- the premises
+
+  -- they say nothing of the state
+  honest-is : (w : history.World) (e : history.Event) → history.Honest key (stateless (flatWorld w)) e → history.Honest key w e
+  unfolding history.Honest flatWorld
+  honest-is w (history.call (callLoad x k)) h = h
+  honest-is w (history.call (callAccept text lane position)) h = h
+  honest-is w (history.call (callSeal room)) h = h
+  honest-is w (history.call (callCommit bytes)) h = h
+  honest-is w (history.call (callPoint position)) h = h
+  honest-is w (history.call (callCheckpoint room)) h = h
+  honest-is w (history.call (callTruncate position)) h = h
+  honest-is w (history.call (callRecover file log room)) h = h
+  honest-is w (history.cut b) h = h
+
+  pub premises-are : (es : List Event) (w : history.World) → Premises key (flatWorld w) es → history.Premises key w (map eventOf es)
+  unfolding Premises history.Premises
+  premises-are [] w p = tt
+  premises-are (e ∷ es) w p = (honest-is w (eventOf e) (p .0), premises-are es (history.next key w (eventOf e)) (subst (λ (x : World). Premises key x es) (next-is w e) (p .1)))

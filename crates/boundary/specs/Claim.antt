@@ -1,0 +1,94 @@
+-- Demand 3 of what firmware calls: the claim of protocol's Claim about replies, state in numbers, named store and number. A run over C is the run
+-- of the definitions. The proof is in proofs/ClaimLaws.antt.
+-- Assumes nothing.
+use Prim.Native.Nat.{ℕ, suc}
+use mathlib.Core.Path.{_≡_}
+use mathlib.Core.List.{List, map}
+use mathlib.Core.Option.{some}
+use lib.ListN.{length}
+use Rattle.table.specs.declared.Entry.{Entry}
+use Rattle.protocol.specs.Load.{keyLen}
+use Rattle.protocol.specs.LatestOf.{LatestOf}
+use Rattle.protocol.specs.Claim.{Unspent, HasLatest}
+use Rattle.protocol.specs.History as history
+use Rattle.protocol.specs.History.{faithfulLog, FaithfulFile}
+use Rattle.protocol.specs.declared.Vault.{Vault}
+use Rattle.boundary.specs.Run.{Event, call, paviluko-recover, returned, loaded, World, settled, newWorld, eventOf, next, run, flatWorld, Honest, Premises}
+use Rattle.boundary.specs.declared.FlatState.{FlatState}
+use Rattle.boundary.specs.declared.Said.{Said}
+
+-- PAVILUKO_COLD
+abbrev pub cold : ℕ
+cold = 1
+
+-- a call that is taken and names no store, and one that names N: PAVILUKO_STORE_NONE and PAVILUKO_STORE_N
+abbrev pub saysNothing : Said
+saysNothing = record { value = 0; len = 0; number = 0; store = 0; lane = 0 }
+
+abbrev pub saysN : ℕ → Said
+saysN n = record { value = n; len = 0; number = 0; store = 6; lane = 0 }
+
+-- PAVILUKO_REFUSED_SPENT
+abbrev pub saysSpent : Said
+saysSpent = record { value = 0; len = 0; number = 8; store = 0; lane = 0 }
+
+-- accepted exactly when no counter is spent: number 0 with the store of N + 1, or number 8
+pub record TakenUnlessSpent (x : Vault) (said : Said) : Type 0 where
+  pub takes : Unspent x → said ≡ saysN (suc (x .n))
+  pub spent : (Unspent x → ⊥) → said ≡ saysSpent
+
+module _ (key : List ℕ) where
+  -- what a list of events over C comes to, from a new vault and no state
+  abbrev pub after : List Event → World
+  after es = run key newWorld es
+
+  -- a list that keeps to the premises
+  abbrev pub Listed : List Event → Type 0
+  Listed es = Premises key newWorld es
+
+  -- calls over C, each handed the state last returned, are the definitions' calls: what lasts, the store that is pending and the state are theirs
+  abbrev pub RunIsTheDefinitions : Type 0
+  RunIsTheDefinitions = (es : List Event) → after es ≡ flatWorld (history.run key history.newWorld (map eventOf es))
+
+  -- whatever is handed over as checkpoint and log: where paviluko_recover says 0, the table in the state that it hands back is the book's, entry
+  -- for entry
+  abbrev pub TableIsTheBooks : Type 0
+  TableIsTheBooks = (es : List Event) → Listed es → (s : FlatState) → after es .state ≡ some s → (file log out : List ℕ) → Honest key (after es) (call (paviluko-recover file log out))
+      → returned s (paviluko-recover file log out) .reply .said .number ≡ 0
+      → HasLatest (next key (after es) (call (paviluko-recover file log out)) .lasting .book) (returned s (paviluko-recover file log out) .reply .state .table)
+
+  -- the latest of all writes to a meter in the book is one entry
+  abbrev pub LatestIsOne : Type 0
+  LatestIsOne = (es : List Event) → Listed es → (m : ℕ) (a b : Entry) → LatestOf (settled (after es) .book) m a → LatestOf (settled (after es) .book) m b → a ≡ b
+
+  -- a cold collector takes a card that kept faith, exactly when no counter is spent
+  abbrev pub FaithfulCardIsTaken : Type 0
+  FaithfulCardIsTaken = (es : List Event) → Listed es → (s : FlatState) → after es .state ≡ some s → s .phase ≡ cold → (file out : List ℕ)
+      → FaithfulFile (settled (after es) .vault .s) (settled (after es) .card) file
+      → TakenUnlessSpent (settled (after es) .vault) (returned s (paviluko-recover file (faithfulLog (settled (after es) .card)) out) .reply .said)
+
+  -- paviluko_load takes the vault's numbers after any list, names no store, and hands back a cold collector
+  abbrev pub LoadIsTaken : Type 0
+  LoadIsTaken = (es : List Event) → Listed es → (loaded (settled (after es) .vault) key .reply .said ≡ saysNothing) × (loaded (settled (after es) .vault) key .reply .state .phase ≡ cold)
+
+  -- the card that kept faith has a file of version S where S > 0
+  abbrev pub CardHasAFile : Type 0
+  CardHasAFile = (es : List Event) → Listed es → (file : List ℕ) × FaithfulFile (settled (after es) .vault .s) (settled (after es) .card) file
+
+  -- and what it hands over keeps to the premises
+  abbrev pub FaithfulCardIsHonest : Type 0
+  FaithfulCardIsHonest = (es : List Event) → Listed es → (file out : List ℕ) → FaithfulFile (settled (after es) .vault .s) (settled (after es) .card) file
+      → Honest key (after es) (call (paviluko-recover file (faithfulLog (settled (after es) .card)) out))
+
+  pub record Claim : Type 0 where
+    pub run-is-the-definitions : RunIsTheDefinitions
+    pub table-is-the-books : TableIsTheBooks
+    pub latest-is-one : LatestIsOne
+    pub faithful-card-is-taken : FaithfulCardIsTaken
+    pub load-is-taken : LoadIsTaken
+    pub card-has-a-file : CardHasAFile
+    pub faithful-card-is-honest : FaithfulCardIsHonest
+
+-- demand 3 over C, for every key of 16 bytes
+abbrev pub Demand3 : Type 0
+Demand3 = (key : List ℕ) → length key ≡ keyLen → Claim key
