@@ -33,7 +33,7 @@ use Rattle.boundary.specs.declared.FlatState.{FlatState}
 use Rattle.boundary.specs.declared.Said.{Said as SaidNumbers}
 use Rattle.boundary.proofs.FlatLaws.{phase-back}
 use Rattle.boundary.proofs.NumberLaws.{number-tells}
-use Rattle.boundary.proofs.RunLaws.{returned-is, call-numbered, next-is, run-is, premises-are}
+use Rattle.boundary.proofs.RunLaws.{returned-is, call-numbered, next-is, run-is, premises-are, premises-too, every-list}
 
 -- ---- states
 
@@ -93,6 +93,10 @@ module _ (key : List ℕ) where
   listed : (es : List Event) → Listed key es → claim.Listed key (events es)
   unfolding newWorld history.newWorld flatWorld flatState
   listed es p = premises-are key es history.newWorld p
+
+  unlisted : (es : List Event) → claim.Listed key (events es) → Listed key es
+  unfolding newWorld history.newWorld flatWorld flatState
+  unlisted es p = premises-too key es history.newWorld p
 
   module _ (holds : claim.Claim key) (es : List Event) (p : Listed key es) where
     abbrev beside : history.World
@@ -192,6 +196,8 @@ demand-3-over-c key long =
     let holds = demand-3 key long in
     record {
       run-is-the-definitions = is-the-definitions key;
+      premises-are-the-definitions = λ es. (listed key es, unlisted key es);
+      every-list-is-one = every-list;
       table-is-the-books = safe key holds;
       latest-is-one = one key holds;
       faithful-card-is-taken = live key holds;

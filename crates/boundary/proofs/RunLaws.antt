@@ -3,11 +3,11 @@
 -- down hands back the state that came. So each event takes the one run's world to the other's.
 -- Assumes nothing.
 use Prim.Native.Nat.{ℕ}
-use mathlib.Core.Path.{_≡_, refl, ap, subst, _∙_}
+use mathlib.Core.Path.{_≡_, refl, sym, ap, ap₂, subst, _∙_}
 use mathlib.Core.Bool.{true, false}
 use mathlib.Core.List.{List, [], _∷_, _++_, map}
 use mathlib.Core.Option.{Option, some, none}
-use lib.ListN.{length, take, drop}
+use lib.ListN.{length, take, drop, replicate, length-replicate}
 use Rattle.octets.specs.Lists.{putOver}
 use Rattle.sealed.specs.Record.{Opened}
 use Rattle.protocol.specs.Said.{Said, refused, taken, Answered}
@@ -167,19 +167,43 @@ module _ (key : List ℕ) where
   -- ---- the premises
 
   -- they say nothing of the state
-  honest-is : (w : history.World) (e : history.Event) → history.Honest key (stateless (flatWorld w)) e → history.Honest key w e
-  unfolding history.Honest flatWorld
-  honest-is w (history.call (callLoad x k)) h = h
-  honest-is w (history.call (callAccept text lane position)) h = h
-  honest-is w (history.call (callSeal room)) h = h
-  honest-is w (history.call (callCommit bytes)) h = h
-  honest-is w (history.call (callPoint position)) h = h
-  honest-is w (history.call (callCheckpoint room)) h = h
-  honest-is w (history.call (callTruncate position)) h = h
-  honest-is w (history.call (callRecover file log room)) h = h
-  honest-is w (history.cut b) h = h
+  honest-any : (w : history.World) (s : Option State) (e : history.Event) → history.Honest key w e → history.Honest key (record { lasting = w .lasting; pending = w .pending; state = s }) e
+  unfolding history.Honest
+  honest-any w s (history.call (callLoad x k)) h = h
+  honest-any w s (history.call (callAccept text lane position)) h = h
+  honest-any w s (history.call (callSeal room)) h = h
+  honest-any w s (history.call (callCommit bytes)) h = h
+  honest-any w s (history.call (callPoint position)) h = h
+  honest-any w s (history.call (callCheckpoint room)) h = h
+  honest-any w s (history.call (callTruncate position)) h = h
+  honest-any w s (history.call (callRecover file log room)) h = h
+  honest-any w s (history.cut b) h = h
 
   pub premises-are : (es : List Event) (w : history.World) → Premises key (flatWorld w) es → history.Premises key w (map eventOf es)
-  unfolding Premises history.Premises
+  unfolding Premises history.Premises flatWorld
   premises-are [] w p = tt
-  premises-are (e ∷ es) w p = (honest-is w (eventOf e) (p .0), premises-are es (history.next key w (eventOf e)) (subst (λ (x : World). Premises key x es) (next-is w e) (p .1)))
+  premises-are (e ∷ es) w p = (honest-any (stateless (flatWorld w)) (w .state) (eventOf e) (p .0), premises-are es (history.next key w (eventOf e)) (subst (λ (x : World). Premises key x es) (next-is w e) (p .1)))
+
+  pub premises-too : (es : List Event) (w : history.World) → history.Premises key w (map eventOf es) → Premises key (flatWorld w) es
+  unfolding Premises history.Premises flatWorld
+  premises-too [] w p = tt
+  premises-too (e ∷ es) w p = (honest-any w none (eventOf e) (p .0), subst (λ (x : World). Premises key x es) (sym (next-is w e)) (premises-too es (history.next key w (eventOf e)) (p .1)))
+
+-- ---- every list of the definitions
+
+-- a call of the definitions over C; where bytes are to be put out, a buffer of so many zeros is lent
+over-c : (e : history.Event) → (c : Event) × (eventOf c ≡ e)
+unfolding eventOf asked
+over-c (history.call (callLoad x k)) = (paviluko-load x k, refl)
+over-c (history.call (callAccept text lane position)) = (call (paviluko-accept text lane position), refl)
+over-c (history.call (callSeal room)) = (call (paviluko-seal (replicate room 0)), ap (λ (n : ℕ). history.call (callSeal n)) (length-replicate room 0))
+over-c (history.call (callCommit bytes)) = (call (paviluko-commit bytes), refl)
+over-c (history.call (callPoint position)) = (call (paviluko-point position), refl)
+over-c (history.call (callCheckpoint room)) = (call (paviluko-checkpoint (replicate room 0)), ap (λ (n : ℕ). history.call (callCheckpoint n)) (length-replicate room 0))
+over-c (history.call (callTruncate position)) = (call (paviluko-truncate position), refl)
+over-c (history.call (callRecover file log room)) = (call (paviluko-recover file log (replicate room 0)), ap (λ (n : ℕ). history.call (callRecover file log n)) (length-replicate room 0))
+over-c (history.cut b) = (cut b, refl)
+
+pub every-list : (es : List history.Event) → (cs : List Event) × (map eventOf cs ≡ es)
+every-list [] = ([], refl)
+every-list (e ∷ es) = let x = over-c e in let xs = every-list es in (x .0 ∷ xs .0, ap₂ (λ (y : history.Event) (ys : List history.Event). y ∷ ys) (x .1) (xs .1))

@@ -9,6 +9,7 @@ use lib.ListN.{length}
 use Rattle.table.specs.declared.Entry.{Entry}
 use Rattle.protocol.specs.Load.{keyLen}
 use Rattle.protocol.specs.LatestOf.{LatestOf}
+use Rattle.protocol.specs.Claim as claim
 use Rattle.protocol.specs.Claim.{Unspent, HasLatest}
 use Rattle.protocol.specs.History as history
 use Rattle.protocol.specs.History.{faithfulLog, FaithfulFile}
@@ -50,6 +51,14 @@ module _ (key : List ℕ) where
   abbrev pub RunIsTheDefinitions : Type 0
   RunIsTheDefinitions = (es : List Event) → after es ≡ flatWorld (history.run key history.newWorld (map eventOf es))
 
+  -- such a list keeps to the premises exactly where the definitions' list does
+  abbrev pub PremisesAreTheDefinitions : Type 0
+  PremisesAreTheDefinitions = (es : List Event) → (Listed es → claim.Listed key (map eventOf es)) × (claim.Listed key (map eventOf es) → Listed es)
+
+  -- and every list of the definitions is one of C calls: so the lists that are worked out there (protocol's Worked) are lists over C
+  abbrev pub EveryListIsOne : Type 0
+  EveryListIsOne = (es : List history.Event) → (cs : List Event) × (map eventOf cs ≡ es)
+
   -- whatever is handed over as checkpoint and log: where paviluko_recover says 0, the table in the state that it hands back is the book's, entry
   -- for entry
   abbrev pub TableIsTheBooks : Type 0
@@ -82,6 +91,8 @@ module _ (key : List ℕ) where
 
   pub record Claim : Type 0 where
     pub run-is-the-definitions : RunIsTheDefinitions
+    pub premises-are-the-definitions : PremisesAreTheDefinitions
+    pub every-list-is-one : EveryListIsOne
     pub table-is-the-books : TableIsTheBooks
     pub latest-is-one : LatestIsOne
     pub faithful-card-is-taken : FaithfulCardIsTaken
