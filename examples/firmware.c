@@ -242,11 +242,15 @@ static outcome follow(paviluko_said said)
     return carry_out_or_cut(&ram.said) ? DONE : OFF;
 }
 
-/* ---- the collector ---- */
+/* ---- the collector ----
+ * What makes calls is not inlined: its frame holds states and replies, and clear_stack wipes only what lies below the function
+ * that calls it. */
+
+#define NOT_INLINED __attribute__((noinline))
 
 /* Power on: from vault and card into service. If it is REFUSED, ram.said.number belongs on the display: this is not the card
  * that the vault knows, or it was changed. */
-static outcome start(void)
+static NOT_INLINED outcome start(void)
 {
     size_t last, log_len = card_read_log(&last), file_len = card_read_file();
     outcome o = follow(paviluko_do_load(&ram.state, &vault, key, sizeof key));
@@ -275,7 +279,7 @@ static outcome start(void)
 
 /* Sets a point behind all records, makes a checkpoint that covers it, and gives up the records below it. Every record is
  * committed when it is called. */
-static outcome tidy(void)
+static NOT_INLINED outcome tidy(void)
 {
     uint64_t position = ram.next_position;
     outcome o = follow(paviluko_do_point(&ram.state, position));
@@ -298,7 +302,7 @@ static outcome tidy(void)
 
 /* Takes a transaction. DONE: it is visible, and no cut loses it any more. REFUSED: it is not in its layout (4), its lane is
  * above 7 (5), or a counter is spent (8). OFF: start, and take it again if it is not visible; it then gets another number. */
-static outcome take(const uint8_t *transaction, size_t len, uint8_t lane)
+static NOT_INLINED outcome take(const uint8_t *transaction, size_t len, uint8_t lane)
 {
     uint64_t position;
     int reads = 0;
@@ -330,7 +334,7 @@ static outcome take(const uint8_t *transaction, size_t len, uint8_t lane)
 }
 
 /* The table of latest readings. */
-static void show(void)
+static NOT_INLINED void show(void)
 {
     static const char *const media[] = {"", "cold water", "warm water", "heat", "cooling"};
     static const char *const units[] = {"", "l", "l", "kWh", "kWh"};
@@ -345,9 +349,9 @@ static void show(void)
     }
 }
 
-/* Wipes what the calls have left on the stack, the key among it. Call it from the function that calls start, take and tidy, or
- * from further up; it must not be inlined there, or its array would lie beside the remains and not on them. */
-static void __attribute__((noinline)) clear_stack(void)
+/* Wipes what the calls have left on the stack, the key among it. Call it from a function that calls start, take, tidy and
+ * show, or from one further up. If it were inlined, its array would lie beside the remains and not on them. */
+static NOT_INLINED void clear_stack(void)
 {
     volatile uint8_t bytes[PAVILUKO_STACK + HOST_STACK];
     size_t i;

@@ -85,7 +85,7 @@ readme=$built/readme
 rm -rf "$readme"
 mkdir "$readme"
 ln -s "$(pwd)/include" "$(pwd)/target" "$readme"
-between 'A whole program, `sample.c`' 'It is built and run so' >"$readme/sample.c"
+between 'A whole program,' 'It is built and run so' >"$readme/sample.c"
 between 'It is built and run so' 'A call that is turned down' >"$readme/session"
 [ -s "$readme/sample.c" ] || fail "README.md has no program where it was"
 [ "$(grep -c '^\$ ' "$readme/session")" = 2 ] || fail "README.md does not show two commands"
