@@ -1,5 +1,6 @@
-/* The boundary as a C program meets it: the library and include/paviluko.h agree on every struct, a short session runs, and
- * a call that is turned down hands the state back as it came. */
+/* The boundary as a C program meets it: the library and include/paviluko.h agree on their edition and on every struct, a state
+ * of zeros is none, a short session runs, a call that is turned down hands the state back as it came, and a NULL buffer is one
+ * of length 0. */
 #include <stdio.h>
 #include <stdlib.h>
 #include <string.h>
@@ -25,7 +26,7 @@ static int same_entry(const paviluko_entry *a, const paviluko_entry *b)
            a->lane == b->lane && a->present == b->present;
 }
 
-static int same_mark(const paviluko_point_item *a, const paviluko_point_item *b)
+static int same_point(const paviluko_point_item *a, const paviluko_point_item *b)
 {
     return a->position == b->position && memcmp(a->counts, b->counts, sizeof a->counts) == 0 && a->covered == b->covered;
 }
@@ -45,7 +46,7 @@ static int same_state(const paviluko_state *a, const paviluko_state *b)
            memcmp(a->journal.lanes, b->journal.lanes, sizeof a->journal.lanes) == 0 &&
            a->journal.count == b->journal.count && a->journal.used == b->journal.used && a->journal.last == b->journal.last;
     for (int i = 0; i < PAVILUKO_POINTS; i++) {
-        same = same && same_mark(&a->points.items[i], &b->points.items[i]);
+        same = same && same_point(&a->points.items[i], &b->points.items[i]);
     }
     same = same && a->points.count == b->points.count && a->points.any == b->points.any &&
            a->points.newest == b->points.newest;
@@ -215,6 +216,25 @@ static void structs(void)
     all_refused(&s, PAVILUKO_REFUSED_CONDITION);
 }
 
+/* ---- a state of zeros ---- */
+
+static void no_state(const paviluko_state *s)
+{
+    static const paviluko_state none;
+    CHECK(memcmp(s, &none, sizeof none) == 0); /* padding and all */
+    CHECK(paviluko_phase(*s) == 0 && paviluko_records(*s) == 0 && paviluko_points(*s) == 0);
+    all_refused(s, PAVILUKO_REFUSED_CONDITION);
+}
+
+static void zeros(void)
+{
+    static paviluko_state s; /* zeros, as C leaves it */
+    no_state(&s);
+    memset(&s, 0xa5, sizeof s);
+    paviluko_clear(&s);
+    no_state(&s);
+}
+
 /* ---- a session ---- */
 
 static const uint8_t key[PAVILUKO_KEY_LEN] = {1, 2, 3, 4, 5, 6, 7, 8, 9, 10, 11, 12, 13, 14, 15, 16};
@@ -261,6 +281,7 @@ static void session(void)
     wrong.r[3] = 1;
     refused(paviluko_do_load(&s, &wrong, key, 16), PAVILUKO_REFUSED_NUMBERS, 0);
     refused(paviluko_do_load(&s, &vault, NULL, 0), PAVILUKO_REFUSED_LENGTH, 16);
+    refused(paviluko_do_load(&s, &vault, NULL, 16), PAVILUKO_REFUSED_LENGTH, 16);
     CHECK(same_state(&s, &was));
     paviluko_reply blank = paviluko_load(vault, key, 15);
     all_refused(&blank.state, PAVILUKO_REFUSED_CONDITION);
@@ -272,6 +293,14 @@ static void session(void)
     refused(paviluko_do_recover(&s, file, 1, NULL, 0, NULL, 0), PAVILUKO_REFUSED_CLOSED, 0);
     refused(paviluko_do_recover(&s, NULL, 0, file, 60, NULL, 0), PAVILUKO_REFUSED_CLOSED, 0);
     CHECK(same_state(&s, &was));
+
+    /* NULL is no checkpoint, an empty log and no room, whatever lengths stand beside it. */
+    taken(paviluko_do_recover(&s, NULL, sizeof file, NULL, PAVILUKO_LOG_MAX + 1, NULL, sizeof out), PAVILUKO_STORE_N, 0, 1, 0);
+    was = s;
+    refused(paviluko_do_recover(&s, NULL, 0, NULL, 0, NULL, sizeof out), PAVILUKO_REFUSED_LENGTH, PAVILUKO_CHECKPOINT_LEN);
+    CHECK(same_state(&s, &was));
+    memset(&vault, 0, sizeof vault);
+    taken(paviluko_do_load(&s, &vault, key, 16), PAVILUKO_STORE_NONE, 0, 0, 0);
     recover(&s, 15);
     CHECK(vault.s == 2 && vault.n == 2 && vault.e == 0);
 
@@ -279,6 +308,7 @@ static void session(void)
     was = s;
     refused(paviluko_do_accept(&s, transaction, 15, 2, 10), PAVILUKO_REFUSED_TRANSACTION, 0);
     refused(paviluko_do_accept(&s, NULL, 0, 2, 10), PAVILUKO_REFUSED_TRANSACTION, 0);
+    refused(paviluko_do_accept(&s, NULL, 16, 2, 10), PAVILUKO_REFUSED_TRANSACTION, 0);
     refused(paviluko_do_accept(&s, transaction, 16, 8, 10), PAVILUKO_REFUSED_LANE, 0);
     refused(paviluko_do_truncate(&s, 10), PAVILUKO_REFUSED_NO_POINT, 0);
     CHECK(same_state(&s, &was));
@@ -290,6 +320,7 @@ static void session(void)
     refused(paviluko_do_accept(&s, transaction, 16, 2, 11), PAVILUKO_REFUSED_CONDITION, 0);
     refused(paviluko_do_seal(&s, out, 55), PAVILUKO_REFUSED_LENGTH, 56);
     refused(paviluko_do_seal(&s, NULL, 0), PAVILUKO_REFUSED_LENGTH, 56);
+    refused(paviluko_do_seal(&s, NULL, PAVILUKO_RECORD_MAX), PAVILUKO_REFUSED_LENGTH, 56);
     CHECK(same_state(&s, &was));
     memset(out, 0xaa, sizeof out);
     taken(paviluko_do_seal(&s, out, sizeof out), PAVILUKO_STORE_RECORD, 0, 10, 56);
@@ -299,6 +330,7 @@ static void session(void)
     refused(paviluko_do_accept(&s, transaction, 16, 2, 10), PAVILUKO_REFUSED_POSITION, 0);
     refused(paviluko_do_commit(&s, log_bytes, 55), PAVILUKO_REFUSED_CLOSED, 0);
     refused(paviluko_do_commit(&s, NULL, 0), PAVILUKO_REFUSED_CLOSED, 0);
+    refused(paviluko_do_commit(&s, NULL, 56), PAVILUKO_REFUSED_CLOSED, 0);
     CHECK(same_state(&s, &was));
     taken(paviluko_do_commit(&s, log_bytes, log_len), PAVILUKO_STORE_V, 2, 1, 0);
     nine(&s);
@@ -311,6 +343,8 @@ static void session(void)
     taken(paviluko_do_load(&s, &vault, key, 16), PAVILUKO_STORE_NONE, 0, 0, 0);
     was = s;
     refused(paviluko_do_recover(&s, file, sizeof file, NULL, 0, NULL, 0), PAVILUKO_REFUSED_MISSING, 2);
+    refused(paviluko_do_recover(&s, file, sizeof file, NULL, log_len, NULL, 0), PAVILUKO_REFUSED_MISSING, 2);
+    refused(paviluko_do_recover(&s, NULL, sizeof file, log_bytes, log_len, NULL, 0), PAVILUKO_REFUSED_CLOSED, 0);
     CHECK(same_state(&s, &was));
     recover(&s, 15);
     nine(&s);
@@ -331,6 +365,7 @@ static void session(void)
     taken(paviluko_do_checkpoint(&s, NULL, 0), PAVILUKO_STORE_N, 0, 7, 0);
     was = s;
     refused(paviluko_do_checkpoint(&s, out, sizeof out - 1), PAVILUKO_REFUSED_LENGTH, PAVILUKO_CHECKPOINT_LEN);
+    refused(paviluko_do_checkpoint(&s, NULL, sizeof out), PAVILUKO_REFUSED_LENGTH, PAVILUKO_CHECKPOINT_LEN);
     CHECK(same_state(&s, &was));
     taken(paviluko_do_checkpoint(&s, out, sizeof out), PAVILUKO_STORE_FILE, 0, 0, PAVILUKO_CHECKPOINT_LEN);
     CHECK(out[0] == 2 && out[4] == 7 && out[12] == 7);
@@ -346,11 +381,17 @@ static void session(void)
     taken(paviluko_do_truncate(&s, 5), PAVILUKO_STORE_DELETE, 0, 5, 0);
     CHECK(paviluko_points(s) == 0 && s.due.kind == PAVILUKO_DUE_NOTHING);
     nine(&s);
+
+    /* A state with a key, a table and a vault, wiped. */
+    paviluko_clear(&s);
+    no_state(&s);
 }
 
 int main(void)
 {
+    CHECK(paviluko_edition() == PAVILUKO_EDITION);
     structs();
+    zeros();
     session();
     printf("boundary: %ld checks passed; state %zu bytes, reply %zu\n", checks, sizeof(paviluko_state),
            sizeof(paviluko_reply));

@@ -282,34 +282,56 @@ static void loads(const uint8_t *record, size_t record_len)
     free(key);
 }
 
-/* NULL for a buffer of length 0, through the functions that take a pointer to the state: the answer is that of an empty
- * buffer. */
-static void nulls(const paviluko_state *s, const paviluko_vault *x)
+static void same_answer(const char *name, const paviluko_said *said, const paviluko_state *t, const paviluko_said *wanted,
+                        const paviluko_state *next)
 {
+    calls += 2;
+    if (said->number != wanted->number || said->value != wanted->value || said->store != wanted->store ||
+        said->lane != wanted->lane || said->len != wanted->len || !same_state(t, next)) {
+        wrong(name, "NULL: not the answer of an empty buffer", said);
+    }
+}
+
+/* NULL for a buffer, whatever length stands beside it, through the functions that take a pointer to the state: the answer is
+ * that of an empty buffer. */
+static void nulls(const paviluko_state *s, const paviluko_vault *x, const uint8_t *record, size_t record_len)
+{
+    static const size_t lens[] = {0, 1, 16, 56, PAVILUKO_RECORD_MAX, PAVILUKO_CHECKPOINT_LEN, PAVILUKO_LOG_MAX + 1, SIZE_MAX};
     uint8_t one = 0;
-    paviluko_state t;
-    paviluko_said said[6];
-    const paviluko_reply wanted[6] = {
-        paviluko_load(*x, &one, 0),      paviluko_accept(*s, &one, 0, 0, 99),
-        paviluko_seal(*s, &one, 0),      paviluko_commit(*s, &one, 0),
-        paviluko_checkpoint(*s, &one, 0), paviluko_recover(*s, &one, 0, &one, 0, &one, 0),
-    };
-    for (int i = 0; i < 6; i++) {
+    const paviluko_reply load = paviluko_load(*x, &one, 0), accept = paviluko_accept(*s, &one, 0, 0, 99),
+                         seal = paviluko_seal(*s, &one, 0), commit = paviluko_commit(*s, &one, 0),
+                         checkpoint = paviluko_checkpoint(*s, &one, 0);
+    for (size_t i = 0; i < sizeof lens / sizeof lens[0]; i++) {
+        size_t len = lens[i];
+        paviluko_said said;
+        paviluko_state t = *s;
+        said = paviluko_do_load(&t, x, NULL, len);
+        same_answer("load", &said, &t, &load.said, s); /* a refused load leaves the state */
+        said = paviluko_do_accept(&t, NULL, len, 0, 99);
+        same_answer("accept", &said, &t, &accept.said, &accept.state);
         t = *s;
-        switch (i) {
-        case 0: said[i] = paviluko_do_load(&t, x, NULL, 0); break;
-        case 1: said[i] = paviluko_do_accept(&t, NULL, 0, 0, 99); break;
-        case 2: said[i] = paviluko_do_seal(&t, NULL, 0); break;
-        case 3: said[i] = paviluko_do_commit(&t, NULL, 0); break;
-        case 4: said[i] = paviluko_do_checkpoint(&t, NULL, 0); break;
-        default: said[i] = paviluko_do_recover(&t, NULL, 0, NULL, 0, NULL, 0); break;
+        said = paviluko_do_seal(&t, NULL, len);
+        same_answer("seal", &said, &t, &seal.said, &seal.state);
+        t = *s;
+        said = paviluko_do_commit(&t, NULL, len);
+        same_answer("commit", &said, &t, &commit.said, &commit.state);
+        t = *s;
+        said = paviluko_do_checkpoint(&t, NULL, len);
+        same_answer("checkpoint", &said, &t, &checkpoint.said, &checkpoint.state);
+
+        /* Recover has three buffers: each of them NULL or not. */
+        for (int which = 0; which < 8; which++) {
+            static uint8_t out[PAVILUKO_CHECKPOINT_LEN], other[PAVILUKO_CHECKPOINT_LEN];
+            int file = which & 1, log = which & 2, room = which & 4;
+            t = *s;
+            said = paviluko_do_recover(&t, file ? NULL : record, file ? len : 0, log ? NULL : record, log ? len : record_len,
+                                       room ? NULL : out, room ? len : sizeof out);
+            paviluko_reply r = paviluko_recover(*s, record, 0, record, log ? 0 : record_len, other, room ? 0 : sizeof other);
+            same_answer("recover", &said, &t, &r.said, &r.state);
+            if (memcmp(out, other, sizeof out)) {
+                wrong("recover", "NULL: other bytes put out", &said);
+            }
         }
-        /* A refused load leaves the state. */
-        if (said[i].number != wanted[i].said.number || said[i].value != wanted[i].said.value ||
-            !same_state(&t, i == 0 ? s : &wanted[i].state)) {
-            wrong("NULL", "not the answer of an empty buffer", &said[i]);
-        }
-        calls += 2;
     }
 }
 
@@ -352,7 +374,16 @@ int main(int argc, char **argv)
     }
 
     for (size_t i = 0; i < states; i++) {
-        nulls(&good[i], &x);
+        nulls(&good[i], &x, record, record_len);
+    }
+
+    /* A state of zeros is none, and so is a cleared one. */
+    paviluko_state none;
+    memset(&none, 0, sizeof none);
+    for (int i = 0; i < 20; i++) {
+        every(&none, record, record_len, PAVILUKO_REFUSED_CONDITION);
+        none = good[below(states)];
+        paviluko_clear(&none);
     }
     for (long round = 0; round < rounds; round++) {
         paviluko_state s;
