@@ -505,12 +505,20 @@ static void lose_power(void)
     memset(&ram, 0xa5, sizeof ram);
 }
 
-/* A start, and then the table is right. */
+/* In service, the table is right, and the vault has every number that was named. */
+static void check_service(void)
+{
+    check(table_right(), "the table is wrong");
+    check(memcmp(&vault, &ram.state.vault, sizeof vault) == 0, "a store was named and is not in the vault");
+}
+
 static outcome start_right(void)
 {
     outcome o = start();
     check(o != REFUSED, "the card was turned down");
-    check(o != DONE || table_right(), "the table is wrong after a start");
+    if (o == DONE) {
+        check_service();
+    }
     return o;
 }
 
@@ -533,14 +541,18 @@ static outcome live(void)
         o = tidy();
         check(o != REFUSED, "the evening's checkpoint was turned down");
     }
-    check(o != DONE || table_right(), "the table is wrong in the evening");
+    if (o == DONE) {
+        check_service();
+    }
     return o;
 }
 
 /* The day, with what trial says; it starts again where the box went off. */
 static void live_through(void)
 {
+    int starts = 1;
     while (live() == OFF) {
+        check(starts++ < 3, "off again and again");
         printf("off at store %lu, last call said %d: starting again\n", trial.stores, ram.said.number);
         lose_power();
     }

@@ -78,6 +78,10 @@ echo "boundary: the header compiles alone as C99, C11 and C++17, and refuses ano
 
 # ---- the calls ----
 
+# Without the library.
+gcc -std=c11 -O2 -Wall -Wextra -Werror -Iinclude -o "$built/passed_on" "$here/passed_on.c"
+"$built/passed_on"
+
 gcc -std=c11 -O2 -Wall -Wextra -Werror -Iinclude -o "$built/agree" "$here/agree.c" "$library"
 "$built/agree"
 

@@ -47,7 +47,9 @@ table "$wanted" >"$built/table"
 
 # Runs the example with a fault. Its table is the one without; how often the box started again is as given.
 with() { # STARTS OPTION N
-    "$built/c99" "$2" "$3" >"$built/fault.out" || { cat "$built/fault.out" >&2; fail "$2 $3 ended with status $?"; }
+    status=0
+    "$built/c99" "$2" "$3" >"$built/fault.out" || status=$?
+    [ "$status" = 0 ] || { cat "$built/fault.out" >&2; fail "$2 $3 ended with status $status"; }
     [ "$(grep -c 'starting again$' "$built/fault.out")" = "$1" ] || fail "$2 $3: not $1 starts more"
     table "$built/fault.out" | diff "$built/table" - || fail "$2 $3: another table"
     runs=$((runs + 1))
