@@ -22,7 +22,7 @@
 
 enum {
     CARD_RECORDS = PAVILUKO_RECORDS, /* tidy comes before more are listed, and deletes them */
-    CARD_FILES = 4,                  /* the one in use, and the two of a recovery */
+    CARD_FILES = 3,                  /* the one in use, and the two of a recovery */
     TIDY_AT = PAVILUKO_RECORDS - 8,  /* records listed when it is time for a checkpoint */
     HOST_STACK = 65536               /* for clear_stack: what the functions of this file use themselves */
 };
@@ -243,8 +243,8 @@ static outcome follow(paviluko_said said)
 }
 
 /* ---- the collector ----
- * What makes calls is not inlined: its frame holds states and replies, and clear_stack wipes only what lies below the function
- * that calls it. */
+ * A task that calls these needs PAVILUKO_STACK bytes of stack and some KB more. They are not inlined: their frames hold states
+ * and replies, and clear_stack wipes only what lies below the function that calls it. */
 
 #define NOT_INLINED __attribute__((noinline))
 
@@ -259,7 +259,8 @@ static NOT_INLINED outcome start(void)
     }
     o = follow(paviluko_do_recover(&ram.state, ram.file, file_len, ram.log, log_len, ram.out, sizeof ram.out));
     if (o == REFUSED && ram.said.number == PAVILUKO_REFUSED_CLOSED && log_len != 0 && ram.said.value == last) {
-        /* The last record does not open: the card has not kept it. Leave it out; had it been visible, recover would say 13. */
+        /* The last record does not open: the card has not kept it. Leave it out; had it been visible, recover would say 13.
+         * (With one record, 0 may also mean the checkpoint: then this is turned down again.) */
         log_len = last;
         o = follow(paviluko_do_recover(&ram.state, ram.file, file_len, ram.log, log_len, ram.out, sizeof ram.out));
     }
@@ -410,29 +411,29 @@ static void add(transaction *t, int meter, uint8_t code, int32_t reading)
     t->len += 8;
 }
 
-/* Three receivers, lanes 0 to 2, each with the four meters of its floor, take turns every ten minutes. */
+/* Three receivers, lanes 0 to 2, each with the four meters of its floor, take turns every nine minutes. */
 static void make_day(void)
 {
     int i, k;
     for (i = 0; i < DAY; i++) {
         int lane = i % 3;
-        begin(&day[i], (uint8_t)lane, MORNING + 600 * (uint64_t)i);
+        begin(&day[i], (uint8_t)lane, MORNING + 540 * (uint64_t)i);
         for (k = 0; k <= i % 4; k++) {
             add(&day[i], 10 * lane + k, (uint8_t)(1 + k), 1000 * (k + 1) + 7 * i);
         }
     }
     /* One meter heard by two receivers in the same second: lane 5's reading is the latest, though lane 3's comes later. */
-    begin(&day[20], 5, MORNING + 12000);
+    begin(&day[20], 5, MORNING + 10800);
     add(&day[20], 200, 1, 4711);
-    begin(&day[21], 3, MORNING + 12000);
+    begin(&day[21], 3, MORNING + 10800);
     add(&day[21], 200, 1, 4712);
     /* A meter that was mounted the wrong way round. */
-    begin(&day[130], 4, MORNING + 78000);
+    begin(&day[130], 4, MORNING + 70200);
     add(&day[130], 201, 4, -17);
-    /* The clock goes back: the reading with the greater stamp stays. */
-    begin(&day[140], 6, MORNING + 84000);
+    /* The clock is put back by an hour: the reading with the greater stamp stays. */
+    begin(&day[140], 6, MORNING + 75600);
     add(&day[140], 202, 3, 88);
-    begin(&day[141], 6, MORNING + 80000);
+    begin(&day[141], 6, MORNING + 72540);
     add(&day[141], 202, 3, 80);
 }
 

@@ -3,7 +3,8 @@
  *   paviluko_clear on a local state leaves nothing of its key, however the compiler optimises; without it the key is found,
  *   so the search can find one;
  *   calls of the library, and then a function that is not inlined and writes zeros to a volatile array of PAVILUKO_STACK
- *   bytes, called from the function that made the calls: nothing is left below that function's frame;
+ *   bytes, called from the function that made the calls: nothing is left below that function's frame (in the frame itself
+ *   there may be copies of the state, as an argument or a reply; so the example wipes from a function further up);
  *   the host of examples/firmware.c, and then its own clear_stack: nothing is left on the whole stack, and its array covers
  *   all that the host had used.
  *
