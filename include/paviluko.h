@@ -16,63 +16,76 @@
  *   checkpoint   3 calls seal the whole table into a file                                     names N, the file, S
  *   truncate     9 calls give up the records below a covered point                            names R of 8 lanes, the deletion
  *
- * THE ONE RULE. A call that is taken names at most one store (paviluko_said: store, lane, value, len). The host carries out
- * exactly that store before the next call, and hands the next call the state last returned. Nothing else sets the vault.
- * While a store is due (paviluko_due_store), only the call that names it, or a load, is taken: after accept only seal, and
- * after the first call of checkpoint, truncate or recover only that same function, called again with the same position.
+ * THE ONE RULE. A call that is taken names at most one store (paviluko_said: store, lane, value, len). The host carries
+ * out exactly that store before the next call, and hands the next call the state last returned. Nothing else sets the
+ * vault. While a store is due (paviluko_due_store), only the call that names it, or a load, is taken: after accept only
+ * seal, and after the first call of checkpoint, truncate or recover only that same function, called again with the same
+ * position.
  *
  * A POWER CUT keeps vault and card and loses the state. The store named last is then wholly done or not done; either is
- * fine. Start again with load, given the vault's own numbers, and recover, given the checkpoint file of version S (none
- * while S is 0) and the log records end to end in order of position. A STORE THAT FAILS IS A CUT: if the host cannot carry
- * out the store that was named, it makes no other call with that state, and starts again with load and recover.
+ * fine. (To have it so, write a record or a file under another name, flush it, and rename it.) Start again with load,
+ * given the vault's own numbers, and recover, given the checkpoint file of version S (none while S is 0) and the log
+ * records end to end in order of position. A STORE THAT FAILS IS A CUT: if the host cannot carry out the store that was
+ * named, it makes no other call with that state, and starts again with load and recover.
  *
- * WHICH FILE. A checkpoint file has version S + 1 at the time when it is named: S, stored next, then names it. The version is
- * bytes 4 to 11 of the file, the seal number bytes 12 to 19, little-endian. After a cut, hand over the file whose version is
- * the vault's S; if a cut between the file and S left two of one version, either is right. Files are written beside the older
- * ones. Those of a version below S may be deleted once S is stored, and not before: no later recovery asks for them, since S
- * never falls.
+ * VISIBLE is a transaction once V of its lane is stored, and no cut loses it then. After a cut, look at the vault before
+ * the recovery: V is at least the number that accept named, or the transaction is not visible and is to be accepted anew,
+ * under another number. A recovery raises V to W, and makes nothing visible by it.
  *
- * POSITIONS are the host's: any rising numbers, 0 among them. They start anew whenever a recovery ends, for it empties the log.
+ * WHICH FILE. A checkpoint file has version S + 1 at the time when it is named; the store of S that follows makes it the
+ * one in use. The version is bytes 4 to 11 of the file, the seal number bytes 12 to 19, little-endian. After a cut, hand
+ * over the file whose version is the vault's S; if a cut between the file and S left two of one version, either is right.
+ * Files are written beside the older ones. Those of a version below S may be deleted once S is stored, and not before: no
+ * later recovery asks for them, since S never falls. One of a version above S was left by such a cut; nobody asks for it
+ * either, and it may be deleted while no checkpoint and no recovery stands between its file and S. Delete nothing before
+ * recover has taken the card.
  *
- * A CALL THAT IS TURNED DOWN returns one of the numbers 1 to 15. It hands back the state that came, leaves every buffer as
- * it was, and names no store: the host may simply go on. Where several causes hold, the lowest number is returned.
- * If commit says 9 to a record read back from the card, read it again and call again; if it says 9 again, the card has not
- * kept the record: load and recover. The number is then given up, and the transaction is accepted anew. (10 and 11 mean that
- * another record was handed over than the one that is next in its lane.)
+ * POSITIONS are the host's: any rising numbers, 0 among them. They start anew whenever a recovery ends, for it empties
+ * the log.
+ *
+ * A CALL THAT IS TURNED DOWN returns one of the numbers 1 to 15. It hands back the state that came, leaves every buffer
+ * as it was, and names no store: the host may simply go on. Where several causes hold, the lowest number is returned. If
+ * commit says 9 to a record read back from the card, read it again and call again; if it says 9 again, the card has not
+ * kept the record: load, and recover with a log that leaves this record out, for recover would say 9 to it as well. The
+ * number is then given up, and the transaction is accepted anew. (Were the record one that is visible, recover would say
+ * 13. 10 and 11 mean that another record was handed over than the one that is next in its lane.)
  *
  * WHAT IS PROVED. Each function below returns, for every argument, what the definitions in crates/protocol/specs say (the
- * promises stand in crates/paviluko/src/lib.rt); and of any run of these calls with cuts, whatever card is handed over, that
- * the table of an accepted recovery is the latest reading of every meter, and that a card that kept faith is accepted
- * (crates/boundary/specs/Claim.antt; docs/ARCHITECTURE.md has it in words).
+ * promises stand in crates/paviluko/src/lib.rt); and of any run of these calls with cuts, whatever card is handed over,
+ * that the table of an accepted recovery is the latest reading of every meter, and that a card that kept faith is
+ * accepted (crates/boundary/specs/Claim.antt; docs/ARCHITECTURE.md has it in words).
  *
  * BUFFERS MUST NOT CHANGE DURING A CALL. What a call is lent, nobody else writes until it returns: no other thread, no
- * interrupt, no DMA, no card that is mapped into memory. A call reads its input more than once, and bytes that change between
- * checking and using were never checked. Copy mapped card memory into RAM, and hand over the copy.
+ * interrupt, no DMA, no card that is mapped into memory. A call reads its input more than once, and bytes that change
+ * between checking and using were never checked. Copy mapped card memory into RAM, and hand over the copy.
  *
- * POINTERS. The functions want a valid address for each buffer, even for one of length 0; in the paviluko_do_ functions a NULL
- * buffer is one of length 0, whatever length stands beside it. `out` must not overlap another buffer of the same call.
+ * POINTERS. The functions want a valid address for each buffer, even for one of length 0; in the paviluko_do_ functions a
+ * NULL buffer is one of length 0, whatever length stands beside it. `out` must not overlap another buffer of the same
+ * call.
  *
- * MEMORY AND THREADS. There is no heap, no global and no hidden state: the functions are re-entrant, and no pointer outlives
- * its call. State and reply are some 8 KB each and are passed by value, so a call needs stack. Measured (bench/stack.c), state
- * and reply among it: load 27 KB, accept 31, truncate 32, point 40, commit 47, seal 52, checkpoint 72, recover 105, the
- * questions at the end 15. PAVILUKO_STACK leaves room beyond the deepest of them. The paviluko_do_ functions at the end of
- * this file take a pointer to the state instead, and write the next state back.
+ * MEMORY AND THREADS. There is no heap, no global and no hidden state: the functions are re-entrant, and no pointer
+ * outlives its call. State and reply are some 8 KB each and are passed by value, so a call needs stack. Measured
+ * (bench/stack.c), state and reply among it: load 27 KB, accept 31, truncate 32, point 40, commit 47, seal 52, checkpoint
+ * 72, recover 105, the questions at the end 15. PAVILUKO_STACK leaves room beyond the deepest of them. The paviluko_do_
+ * functions at the end of this file take a pointer to the state instead, and write the next state back.
  *
- * THE KEY. A state holds the key; paviluko_clear wipes one that is no longer needed. The stack that a call used may hold copies
- * of the state, the key and plain readings until something else is written there, and so may the replies that were returned by
- * value. A host that minds makes its calls on a stack of its own (a task's), of PAVILUKO_STACK bytes and its own need, and
- * clears that memory afterwards; or it calls, from where it made the call, a function that is not inlined and writes zeros to
- * a volatile array of PAVILUKO_STACK bytes (examples/firmware.c has one).
+ * THE KEY. A state holds the key; paviluko_clear wipes one that is no longer needed. The stack that a call used may hold
+ * copies of the state, the key and plain readings until something else is written there, and so may the frame of the
+ * function that made the call: state and reply stand there by value. A host that minds makes its calls on a stack of its
+ * own (a task's), of PAVILUKO_STACK bytes and its own need, and clears that memory afterwards. Or it makes them in
+ * functions that are not inlined, and the function that called these then calls one that writes zeros to a volatile array
+ * of PAVILUKO_STACK bytes and as many more as the frames of those functions take (clear_stack in examples/firmware.c),
+ * not inlined either.
  */
 #ifndef PAVILUKO_H
 #define PAVILUKO_H
 
-#include <stddef.h>
-#include <stdint.h>
-
 #if !defined(__x86_64__) || defined(__ILP32__) || defined(_WIN32)
 #error "libpaviluko.a is for x86-64 with the System V calling convention and 64-bit pointers"
 #endif
+
+#include <stddef.h>
+#include <stdint.h>
 
 #ifdef __cplusplus
 #define PAVILUKO_ASSERT(test, text) static_assert(test, text)
@@ -85,7 +98,7 @@ extern "C" {
 
 /* ---- the edition ----
  * How many of the requests of document 02 this interface has: each one raises it. The library says its own, so that a program
- * can tell whether header and archive belong together. Both are printed where the library is built, with a hash of its sources. */
+ * can tell whether header and archive belong together. make lib prints it with a hash of the sources. */
 
 #define PAVILUKO_EDITION 0
 uint64_t paviluko_edition(void);
@@ -158,7 +171,7 @@ enum {
     PAVILUKO_REFUSED_POSITION = 6,     /* position too low */
     PAVILUKO_REFUSED_FULL = 7,         /* 128 records listed, or 8 points kept */
     PAVILUKO_REFUSED_SPENT = 8,        /* a counter is at its maximum */
-    PAVILUKO_REFUSED_CLOSED = 9,       /* bytes do not open (offset of the record; 0 for a checkpoint and in commit) */
+    PAVILUKO_REFUSED_CLOSED = 9,       /* bytes do not open (offset of the record; 0 for a checkpoint too, and in commit) */
     PAVILUKO_REFUSED_EPOCH = 10,       /* wrong epoch (offset, 0 in commit) */
     PAVILUKO_REFUSED_TURN = 11,        /* number out of turn (offset, 0 in commit) */
     PAVILUKO_REFUSED_VERSION = 12,     /* checkpoint version is not S */
@@ -375,7 +388,7 @@ static inline size_t paviluko_len(const uint8_t *p, size_t len)
     return p ? len : 0;
 }
 
-/* A load that is turned down leaves *s as it was. */
+/* A load that is turned down leaves *s as it was; let it be zeros at first, which is no state. */
 static inline paviluko_said paviluko_do_load(paviluko_state *s, const paviluko_vault *x, const uint8_t *key, size_t key_len)
 {
     paviluko_reply r = paviluko_load(*x, paviluko_some(key), paviluko_len(key, key_len));
