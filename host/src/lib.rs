@@ -7,7 +7,7 @@
 //! runner that carries out exactly the one named store before the next call (`runner`). The program `paviluko` runs it.
 //!
 //! A module uses only those named before it: `limits`, `ffi`, `words`, `collector`, `files`, `vault`, `card`, `folder`,
-//! `runner`; `transaction` uses `limits`.
+//! `runner`; `transaction` uses `limits`, and `identity`, which says what the library is, `ffi`.
 //!
 //! ```no_run
 //! use paviluko_host::{Collector, Numbers, Store};
@@ -29,6 +29,7 @@ pub mod collector;
 pub mod ffi;
 pub mod files;
 pub mod folder;
+pub mod identity;
 pub mod limits;
 pub mod runner;
 pub mod transaction;

@@ -12,6 +12,7 @@ use std::process::ExitCode;
 
 use paviluko_host::files::{Disk, Fault, shown};
 use paviluko_host::folder::BoxFolder;
+use paviluko_host::identity;
 use paviluko_host::runner::Runner;
 
 use session::Session;
@@ -22,6 +23,7 @@ paviluko: a submeter collector's box on the bench
   paviluko new DIR             makes a box in the folder DIR: a new vault, a key, an empty card
   paviluko run DIR [SCRIPT]    runs that box: reads commands from the terminal, from a pipe, or from the file SCRIPT
   paviluko demo [DIR]          shows the main job on a new box (in DIR, or in a folder that is removed in the end)
+  paviluko --version           prints the library's edition and the hash of its sources
   paviluko --help              prints this
 
 In a session, help lists the commands. The box's state is in memory only: when the session ends, however it ends, that is
@@ -51,6 +53,10 @@ fn command_line(words: &[OsString]) -> io::Result<u8> {
         ("run", [dir, script]) => run(dir, Some(script)),
         ("demo", []) => demo::run(None),
         ("demo", [dir]) => demo::run(Some(dir)),
+        ("--version" | "-V" | "version", []) => {
+            io::stdout().write_all(identity::lines(identity::edition(), identity::sources()).as_bytes())?;
+            Ok(FINE)
+        }
         ("--help" | "-h" | "help", []) => {
             io::stdout().write_all(USAGE.as_bytes())?;
             Ok(FINE)
