@@ -54,9 +54,9 @@ began=$(date +%s)
 # rt has a process group of its own, since the checks that it starts would outlive it.
 clean() {
     if [ -n "$job" ]; then
-        kill -TERM -- "-$job" 2>/dev/null || true
+        kill -s TERM -- "-$job" 2>/dev/null || true
         tries=0
-        while [ "$tries" -lt 50 ] && kill -0 -- "-$job" 2>/dev/null; do
+        while [ "$tries" -lt 50 ] && kill -s 0 -- "-$job" 2>/dev/null; do
             sleep 0.1
             tries=$((tries + 1))
         done
