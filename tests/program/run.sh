@@ -1,6 +1,6 @@
 #!/bin/sh
-# The program paviluko as a person uses it: sessions with expected answers, wrong command lines, odd input, damaged files,
-# cards changed and damaged, and the program killed at random moments. A line each.
+# The program paviluko as a person uses it: sessions with expected answers, those of the documents at a terminal, its identity,
+# wrong command lines, odd input, damaged files, cards changed and damaged, and the program killed at random moments. A line each.
 # Run from the repository's top; the library is built before. PAVILUKO_LIB may name another folder with its archive.
 # With the argument --write, the answers become the expected ones (look at them before you commit them).
 set -eu
@@ -13,7 +13,7 @@ here=$top/tests/program
 [ -f "$library" ] || { echo "$library is missing: build it first" >&2; exit 1; }
 PAVILUKO_LIB=$(cd "$(dirname "$library")" && pwd)
 export PAVILUKO_LIB
-sh tests/cipher/packages.sh gcc libc6-dev
+sh tests/cipher/packages.sh gcc libc6-dev python3
 
 place=$(sh tools/scratch.sh)
 trap 'rm -rf "$place"' EXIT
@@ -93,21 +93,52 @@ for script in "$here"/*.in; do
 done
 echo "program: $sessions sessions answered as expected"
 
-# The session on the fitter's page.
-fresh
-sed -n '/^    paviluko> /,/^    paviluko> quit/s/^    //p' "$top/docs/FITTER.md" >page
-sed -n 's/^paviluko> //p' page >script
-[ -s script ] || fail 'docs/FITTER.md has no session'
-quietly "$program" new box
-"$program" run box script >out || true
-grep -v '^paviluko> ' page | diff - out >&2 || fail 'docs/FITTER.md: other answers than the program gives'
-echo "program: the session on the fitter's page is what the program answers"
+cd "$top"
+python3 "$here/sessions.py" "$program" README.md docs/FITTER.md
+
+# ---- identity ----
+
+edition=$(sed -n 's/^#define PAVILUKO_EDITION //p' include/paviluko.h)
+sources=$(sh tools/sources.sh)
+unknown='not known: the archive was not built by make lib'
+if [ "$PAVILUKO_LIB" != "$top/target/staticlib" ]; then
+    sources=$(sed -n 's/^sources //p' "$PAVILUKO_LIB/libpaviluko.txt" 2>/dev/null || true)
+fi
+for word in --version -V version; do
+    "$program" "$word" >"$log"
+    printf 'paviluko, edition %s\nsources %s\n' "$edition" "${sources:-$unknown}" | diff - "$log" >&2 ||
+        fail "paviluko $word: not the library of these sources (make lib), or not its identity"
+done
+
+# What build.rs hands on to the program, for an archive and the file beside it.
+hands_on() {
+    handed=$(PAVILUKO_LIB=$place/lib CARGO_MANIFEST_DIR=$top/host "$place/build" | sed -n 's/^cargo:rustc-env=PAVILUKO_SOURCES=//p')
+    [ "$handed" = "$1" ] || fail "build.rs: the sources are '$handed' and not '$1', where $2"
+}
+quietly rustc --edition 2024 -o "$place/build" host/build.rs
+mkdir "$place/lib"
+hash=$(printf '%064d' 7)
+echo 'an archive' >"$place/lib/libpaviluko.a"
+hands_on '' 'there is no file'
+fitting=$(sha256sum "$place/lib/libpaviluko.a")
+printf 'edition 0\nsources %s\narchive %s\nkit k\n' "$hash" "${fitting%% *}" >"$place/lib/libpaviluko.txt"
+hands_on "$hash" 'the file fits'
+echo 'another archive' >"$place/lib/libpaviluko.a"
+hands_on '' 'the file is of another archive'
+rm "$place/lib/libpaviluko.a"
+hands_on '' 'there is no archive'
+echo 'an archive' >"$place/lib/libpaviluko.a"
+sed -i 's/^sources .*/sources 7/' "$place/lib/libpaviluko.txt"
+hands_on '' 'the hash is none'
+echo "program: edition $edition, sources ${sources:-$unknown}; an archive that its file does not fit has none"
 
 # ---- command lines and odd input ----
 
 cases=0
 fresh
 expect 0 'paviluko new DIR' "$program" --help
+expect 0 'paviluko --version' "$program" --help
+expect 2 'paviluko new DIR' "$program" --version box
 expect 2 'paviluko new DIR' "$program"
 expect 2 'paviluko new DIR' "$program" new
 expect 2 'paviluko new DIR' "$program" new a b
