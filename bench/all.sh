@@ -6,5 +6,5 @@ cd "$(dirname "$0")/.."
 
 rt staticlib test_cipher | tail -n 1
 rt staticlib test_sealed | tail -n 1
-rt staticlib paviluko | tail -n 1
+sh tools/lib.sh
 sh bench/run.sh

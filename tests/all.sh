@@ -26,18 +26,12 @@ shown() { # NAME
 }
 
 # All packages at once: two tests cannot install theirs at the same time.
-sh tests/cipher/packages.sh gcc libc6-dev libssl-dev python3 python3-cryptography valgrind
+sh tests/cipher/packages.sh gcc g++ libc6-dev libssl-dev make mandoc pkgconf python3 python3-cryptography valgrind
 
 rt fmt --check
 
-# As many checks at a time as there are processors: more gained nothing by the clock, and cost processor time and memory. A check
-# takes 1 to 2.5 GB.
-jobs=$(nproc)
-room=$(awk '/^MemAvailable:/ { print int($2 / 2000000) }' /proc/meminfo)
-[ "$jobs" -le "$room" ] || jobs=$room
-[ "$jobs" -ge 1 ] || jobs=1
 status=0
-RT_JOBS=${RT_JOBS:-$jobs} rt ci 2>&1 | tee "$work/ci" | sed '$d' || status=$?
+RT_JOBS=$(sh tools/jobs.sh) rt ci 2>&1 | tee "$work/ci" | sed '$d' || status=$?
 verdict=$(tail -n 1 "$work/ci")
 case "$status $verdict" in
 '0 '*' passed, 0 failed') ;;
@@ -48,20 +42,22 @@ case "$status $verdict" in
 esac
 
 # The archives are made one after the other, since rt keeps its notes in target/, the one with the longest tests first.
-# What tests an archive runs beside the making of the next.
-rt staticlib paviluko | tail -n 1
+# What tests an archive runs beside the making of the next; what copies target/rlib begins when no rt runs here any more.
+sh tools/lib.sh
 beside histories
 beside program
 beside boundary
+beside firmware
 rt staticlib test_sealed | tail -n 1
 beside sealed
 rt staticlib test_cipher | tail -n 1
 beside cipher
+beside install
 
 sh tests/axioms.sh paviluko test_sealed test_cipher
 
 failed=
-for test in cipher sealed boundary histories program; do
+for test in cipher sealed boundary firmware histories program install; do
     shown "$test" || failed="$failed $test"
 done
 if [ -n "$failed" ]; then

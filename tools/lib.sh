@@ -3,7 +3,7 @@
 # It ends with the library's identity: edition, hash of the sources, hash of the archive, kit. The same lines are beside the
 # archive in libpaviluko.txt; an archive that does not fit them (of a build that was broken off, say) is built anew.
 #
-# Every proof is checked once, as many crates at a time as there are processors. A line is printed for each crate that ends, and
+# Every proof is checked once, as many crates at a time as tools/jobs.sh says. A line is printed for each crate that ends, and
 # none for one that was proved before; a terminal also shows what is being proved now. Where a crate is not proved, what rt said
 # of it is shown, and the exit status is 1.
 #
@@ -80,7 +80,7 @@ line() {
 run_rt() { # LOOK WORDS..
     looks=$1
     shift
-    TMPDIR=$scratch setsid rt "$@" >"$said" 2>&1 &
+    TMPDIR=$scratch RT_JOBS=$jobs setsid rt "$@" >"$said" 2>&1 &
     job=$!
     while kill -0 "$job" 2>/dev/null; do
         "$looks"
@@ -94,6 +94,7 @@ run_rt() { # LOOK WORDS..
     return "$status"
 }
 
+jobs=$(sh tools/jobs.sh)
 crates=$(sh tools/crates.sh paviluko)
 all=$(echo "$crates" | wc -l)
 left=$(echo "$crates" | grep -vx paviluko)

@@ -3,7 +3,7 @@
 set -euo pipefail
 cd "$(dirname "$0")/../.."
 
-[ -f target/staticlib/libpaviluko.a ] || rt staticlib paviluko | tail -n 1
+sh tools/lib.sh --brief
 sh tests/cipher/packages.sh gcc libc6-dev libssl-dev
 cargo build --release --offline --locked --quiet -p paviluko_histories
 target-rust/release/histories --histories "$1" --events 400 --seed "$2" --progress
