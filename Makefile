@@ -7,6 +7,7 @@ PREFIX ?= /usr/local
 DESTDIR ?=
 
 help:
+	@echo 'make help        prints this, as make alone does'
 	@echo 'make run         builds the proved library and shows a box at work; once built, a few seconds'
 	@echo 'make lib         proves and builds target/staticlib/libpaviluko.a, and prints its identity; some five minutes at first'
 	@echo 'make install     puts header, archive, pkg-config file and man page below PREFIX (/usr/local; DESTDIR before it)'

@@ -64,7 +64,7 @@ clean() {
     rm -rf "$scratch"
 }
 trap clean EXIT
-trap 'exit 1' HUP INT TERM
+trap 'exit 1' HUP INT PIPE TERM
 
 # What stands in the terminal's last line, where there is a terminal.
 moving() {

@@ -16,7 +16,7 @@ sh tools/lib.sh --brief
 here=$(pwd -P)
 place=$(sh tools/scratch.sh)
 trap 'rm -rf "$place"' EXIT
-trap 'exit 1' HUP INT TERM
+trap 'exit 1' HUP INT PIPE TERM
 there=$place/second
 [ "${#there}" != "${#here}" ] || there=$there-folder
 

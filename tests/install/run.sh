@@ -1,8 +1,12 @@
 #!/bin/sh
-# What `make install` leaves: the list of files, a C program that knows them by pkg-config alone, the man page, and `make uninstall`.
-# Then the build in a second folder, whose archive must be the same byte for byte. A line each.
+# What make lists; what `make install` leaves: the list of files, a C program that knows them by pkg-config alone, the man page, and
+# `make uninstall`. Then what `make lib` shows, and the build in a second folder, whose archive must be the same byte for byte. A
+# line each.
 # Run from the repository's top, while no rt runs in it; the library is built before.
 set -eu
+
+# Each make here is the first one, even where this test runs below make test.
+unset MAKEFLAGS MFLAGS MAKELEVEL MAKEOVERRIDES
 
 header=include/paviluko.h
 page=docs/paviluko.3
@@ -24,6 +28,15 @@ fail() {
 quietly() {
     "$@" >"$log" 2>&1 </dev/null || { cat "$log" >&2; exit 1; }
 }
+
+# ---- the list of commands ----
+
+make >"$place/help"
+for target in $(sed -n 's/^\.PHONY: //p' Makefile); do
+    grep -q "^make $target  *[a-zA-Z]" "$place/help" || fail "make alone does not list make $target"
+    [ "$target" = help ] || grep -q "make $target\b" README.md || fail "README.md does not name make $target"
+done
+echo "install: make alone lists $(wc -l <"$place/help") commands"
 
 # ---- the files ----
 
@@ -93,6 +106,7 @@ quietly make uninstall PREFIX="$prefix"
 [ -z "$(find "$prefix" ! -type d)" ] || fail 'make uninstall leaves files'
 echo 'install: nothing is left after make uninstall'
 
-# ---- the second folder ----
+# ---- make lib, and the second folder ----
 
+sh tests/install/progress.sh
 sh tools/reproduce.sh --proved
