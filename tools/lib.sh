@@ -126,8 +126,14 @@ look_below() {
         fi
         case $verdict in
         'proved (unchanged'*) end "$crate" '' ;;
-        'proved ('*) verdict=${verdict#proved (}; end "$crate" "proved in ${verdict%)}" ;;
-        'NOT PROVED: its dependency '*) verdict=${verdict#NOT PROVED: its dependency }; end "$crate" "not tried, for ${verdict%% *} is not proved" ;;
+        'proved ('*)
+            verdict=${verdict#proved (}
+            end "$crate" "proved in ${verdict%)}"
+            ;;
+        'NOT PROVED: its dependency '*)
+            verdict=${verdict#NOT PROVED: its dependency }
+            end "$crate" "not tried, for ${verdict%% *} is not proved"
+            ;;
         'NOT PROVED'*) end "$crate" 'NOT PROVED' ;;
         *)
             waiting="$waiting $crate"
@@ -155,7 +161,7 @@ show() {
 
 # ---- the proofs of the crates below, then the archive ----
 
-sources=$(sh tools/sources.sh)
+before=$(sh tools/sources.sh)
 rm -f "$identity"
 for crate in $left; do
     rm -f "target/log/$crate.say" "target/log/$crate.out" "target/log/$crate.res"
@@ -170,7 +176,7 @@ end paviluko "proved and compiled in $(($(date +%s) - start)) s"
 # ---- its identity ----
 
 describe "$kit" >"$scratch/identity"
-grep -qx "sources $sources" "$scratch/identity" || fail 'the sources changed while the library was built: build it again'
+grep -qx "sources $before" "$scratch/identity" || fail 'the sources changed while the library was built: build it again'
 cp "$scratch/identity" "$identity"
 # Newer than a program that was linked with it before these lines were there: cargo then builds it again.
 touch "$archive"
