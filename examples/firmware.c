@@ -172,7 +172,8 @@ static size_t card_read_log(size_t *last)
 }
 
 /* Deletes the checkpoint files of other versions than S. Nobody asks again for one below S. One above S was left by a cut that
- * came between the file and S; the next checkpoint of that version writes its own. */
+ * came between the file and S; the next checkpoint of that version writes its own. So it is called only while the store of S is
+ * not the one that is due. */
 static void card_forget_files(void)
 {
     size_t i, kept = 0;

@@ -37,8 +37,8 @@
  * over the file whose version is the vault's S; if a cut between the file and S left two of one version, either is right.
  * Files are written beside the older ones. Those of a version below S may be deleted once S is stored, and not before: no
  * later recovery asks for them, since S never falls. One of a version above S was left by such a cut; nobody asks for it
- * either, and it may be deleted while no checkpoint and no recovery stands between its file and S. Delete nothing before
- * recover has taken the card.
+ * either, and it may be deleted whenever the store of S is not the one that is due (PAVILUKO_DUE_VERSION,
+ * PAVILUKO_DUE_RECOVER_VERSION). Keep one of version S, and delete nothing before recover has taken the card.
  *
  * POSITIONS are the host's: any rising numbers, 0 among them. They start anew whenever a recovery ends, for it empties
  * the log.

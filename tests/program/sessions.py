@@ -1,7 +1,7 @@
 #!/usr/bin/env python3
 """Runs the sessions that the documents show, word for word.
 
-A session is an indented block that begins with "$ ". Its commands run one after the other in an empty folder in which the program
+A session is an indented block that begins with a command of the program, behind "$ ". Its commands run one after the other in an empty folder in which the program
 stands at target-rust/release/paviluko, each at a terminal of its own; what the document shows behind the program's prompt is typed
 when the prompt has come. The whole transcript must be the block, line by line; carriage returns are left out. Where the block ends
 at a prompt, the input ends there.
@@ -20,6 +20,7 @@ import time
 
 INDENT = "    "
 COMMAND = "$ "
+PROGRAM = "target-rust/release/paviluko"
 PROMPT = "paviluko> "
 # How long a prompt, or the end of a command, is waited for.
 SECONDS = 60
@@ -30,7 +31,7 @@ class Wrong(Exception):
 
 
 def sessions(text):
-    """The blocks that begin with a command: the number of the first line, and the lines without their indent."""
+    """The blocks that begin with a command of the program: the number of the first line, and the lines without their indent."""
     block, start = [], 0
     for number, line in enumerate(text.split("\n") + [""], 1):
         if line.startswith(INDENT):
@@ -38,7 +39,7 @@ def sessions(text):
                 start = number
             block.append(line[len(INDENT):])
         else:
-            if block and block[0].startswith(COMMAND):
+            if block and block[0].startswith(COMMAND + PROGRAM):
                 yield start, block
             block = []
 
@@ -134,8 +135,8 @@ def held(program, document):
         raise Wrong(f"{document} has no session")
     for start, block in found:
         with tempfile.TemporaryDirectory() as folder:
-            os.makedirs(os.path.join(folder, "target-rust/release"))
-            os.symlink(os.path.abspath(program), os.path.join(folder, "target-rust/release/paviluko"))
+            os.makedirs(os.path.join(folder, os.path.dirname(PROGRAM)))
+            os.symlink(os.path.abspath(program), os.path.join(folder, PROGRAM))
             try:
                 shown = transcript(block, folder)
             except Wrong as wrong:

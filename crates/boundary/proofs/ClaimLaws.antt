@@ -28,7 +28,7 @@ use Rattle.protocol.proofs.Theorem.{demand-3}
 use Rattle.boundary.specs.Flat.{phaseNumber, phaseOf, freeze}
 use Rattle.boundary.specs.Replies.{named, saidOf, replyOf}
 use Rattle.boundary.specs.Run.{Call, Event, call, paviluko-recover, Returned, returned, loaded, World, newWorld, settled, asked, eventOf, behind, goesOn, goesBack, behindCall, next, run, flatState, flatWorld, Honest}
-use Rattle.boundary.specs.Claim.{cold, saysNothing, TakenUnlessSpent, after, Listed, RunIsTheDefinitions, Demand3}
+use Rattle.boundary.specs.Claim.{cold, saysNothing, TakenUnlessSpent, after, Listed, RunIsTheDefinitions, Claim, Demand3}
 use Rattle.boundary.specs.declared.FlatState.{FlatState}
 use Rattle.boundary.specs.declared.Said.{Said as SaidNumbers}
 use Rattle.boundary.proofs.FlatLaws.{phase-back}
@@ -98,7 +98,7 @@ module _ (key : List ℕ) where
   unfolding newWorld history.newWorld flatWorld flatState
   unlisted es p = premises-too key es history.newWorld p
 
-  module _ (holds : claim.Claim key) (es : List Event) (p : Listed key es) where
+  module _ (es : List Event) (p : Listed key es) (holds : claim.Claim key (claim.after key (events es))) where
     abbrev beside : history.World
     beside = claim.after key (events es)
 
@@ -149,7 +149,7 @@ module _ (key : List ℕ) where
     safe s q file log out h n =
         let c = same-state s q in
         let yea = zero-taken (c .0) file log out (subst (λ (t : FlatState). returned t (paviluko-recover file log out) .reply .said .number ≡ 0) (sym (c .2)) n) in
-        let r = holds .table-is-the-books (events es) (listed es p) (c .0) (c .1) file log (length out) (honest-there file log out h) yea in
+        let r = holds .table-is-the-books (c .0) (c .1) file log (length out) (honest-there file log out h) yea in
         let b : history.next key beside (eventOf (recovery file log out)) .lasting .book ≡ next key (after key es) (recovery file log out) .lasting .book = sym (ap (λ (w : World). w .lasting .book) (same-next file log out)) in
         subst (λ (x : List Opened). HasLatest x (returned s (paviluko-recover file log out) .reply .state .table)) b
         (subst (λ (x : Table). HasLatest (history.next key beside (eventOf (recovery file log out)) .lasting .book) x) (sym (reply-table file log out s (r .0) q (r .1))) (r .2))
@@ -162,7 +162,7 @@ module _ (key : List ℕ) where
         let c = same-state s q in
         let f′ = subst (λ (d : Lasting). FaithfulFile (d .vault .s) (d .card) file) same-settled f in
         let co′ = is-cold (c .0) (subst (λ (t : FlatState). t .phase ≡ cold) (sym (c .2)) co) in
-        let r = holds .faithful-card-is-taken (events es) (listed es p) (c .0) (c .1) co′ file (length out) f′ in
+        let r = holds .faithful-card-is-taken (c .0) (c .1) co′ file (length out) f′ in
         let log = faithfulLog (history.settled beside .card) in
         let x = unless-spent (c .0) file log out (history.settled beside .vault) r in
         subst (λ (d : Lasting). TakenUnlessSpent (d .vault) (returned s (paviluko-recover file (faithfulLog (d .card)) out) .reply .said)) (sym same-settled)
@@ -171,37 +171,33 @@ module _ (key : List ℕ) where
     loads : (loaded (settled (after key es) .vault) key .reply .said ≡ saysNothing) × (loaded (settled (after key es) .vault) key .reply .state .phase ≡ cold)
     unfolding replyOf saidOf named freeze phaseNumber
     loads =
-        let r = holds .load-is-taken (events es) (listed es p) in
+        let r = holds .load-is-taken in
         subst (λ (d : Lasting). (loaded (d .vault) key .reply .said ≡ saysNothing) × (loaded (d .vault) key .reply .state .phase ≡ cold)) (sym same-settled) (ap saidOf (r .0), ap phaseNumber (r .1))
 
     files : (file : List ℕ) × FaithfulFile (settled (after key es) .vault .s) (settled (after key es) .card) file
     files =
-        let r = holds .card-has-a-file (events es) (listed es p) in
+        let r = holds .card-has-a-file in
         (r .0, subst (λ (d : Lasting). FaithfulFile (d .vault .s) (d .card) (r .0)) (sym same-settled) (r .1))
 
     honest : (file out : List ℕ) → FaithfulFile (settled (after key es) .vault .s) (settled (after key es) .card) file → Honest key (after key es) (recovery file (faithfulLog (settled (after key es) .card)) out)
     unfolding history.Honest eventOf asked flatWorld
     honest file out f =
         let f′ = subst (λ (d : Lasting). FaithfulFile (d .vault .s) (d .card) file) same-settled f in
-        let r = holds .faithful-card-is-honest (events es) (listed es p) file (length out) f′ in
+        let r = holds .faithful-card-is-honest file (length out) f′ in
         subst (λ (w : World). Honest key w (recovery file (faithfulLog (settled w .card)) out)) (sym same) r
 
     one : (m : ℕ) (a b : Entry) → LatestOf (settled (after key es) .book) m a → LatestOf (settled (after key es) .book) m b → a ≡ b
-    one m a b = subst (λ (d : Lasting). LatestOf (d .book) m a → LatestOf (d .book) m b → a ≡ b) (sym same-settled) (holds .latest-is-one (events es) (listed es p) m a b)
+    one m a b = subst (λ (d : Lasting). LatestOf (d .book) m a → LatestOf (d .book) m b → a ≡ b) (sym same-settled) (holds .latest-is-one m a b)
+
+    holds-of : Claim key (after key es)
+    holds-of = record { table-is-the-books = safe; latest-is-one = one; faithful-card-is-taken = live; load-is-taken = loads; card-has-a-file = files; faithful-card-is-honest = honest }
 
 -- ---- DEMAND 3, OVER C
 
 pub demand-3-over-c : Demand3
-demand-3-over-c key long =
-    let holds = demand-3 key long in
-    record {
-      run-is-the-definitions = is-the-definitions key;
-      premises-are-the-definitions = λ es. (listed key es, unlisted key es);
-      every-list-is-one = every-list;
-      table-is-the-books = safe key holds;
-      latest-is-one = one key holds;
-      faithful-card-is-taken = live key holds;
-      load-is-taken = loads key holds;
-      card-has-a-file = files key holds;
-      faithful-card-is-honest = honest key holds;
-    }
+demand-3-over-c key long = record {
+  run-is-the-definitions = is-the-definitions key;
+  premises-are-the-definitions = λ es. (listed key es, unlisted key es);
+  every-list-is-one = every-list;
+  claim = λ es p. holds-of key es p (demand-3 key long (events key es) (listed key es p));
+}

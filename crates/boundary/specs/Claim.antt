@@ -59,47 +59,31 @@ module _ (key : List ℕ) where
   abbrev pub EveryListIsOne : Type 0
   EveryListIsOne = (es : List history.Event) → (cs : List Event) × (map eventOf cs ≡ es)
 
-  -- whatever is handed over as checkpoint and log: where paviluko_recover says 0, the table in the state that it hands back is the book's, entry
-  -- for entry
-  abbrev pub TableIsTheBooks : Type 0
-  TableIsTheBooks = (es : List Event) → Listed es → (s : FlatState) → after es .state ≡ some s → (file log out : List ℕ) → Honest key (after es) (call (paviluko-recover file log out))
-      → returned s (paviluko-recover file log out) .reply .said .number ≡ 0
-      → HasLatest (next key (after es) (call (paviluko-recover file log out)) .lasting .book) (returned s (paviluko-recover file log out) .reply .state .table)
+  -- the claim, of the world that a list comes to
+  pub record Claim (w : World) : Type 0 where
+    -- whatever is handed over as checkpoint and log: where paviluko_recover says 0, the table in the state that it hands back is the book's, entry
+    -- for entry
+    pub table-is-the-books : (s : FlatState) → w .state ≡ some s → (file log out : List ℕ) → Honest key w (call (paviluko-recover file log out))
+        → returned s (paviluko-recover file log out) .reply .said .number ≡ 0
+        → HasLatest (next key w (call (paviluko-recover file log out)) .lasting .book) (returned s (paviluko-recover file log out) .reply .state .table)
+    -- the latest of all writes to a meter in the book is one entry
+    pub latest-is-one : (m : ℕ) (a b : Entry) → LatestOf (settled w .book) m a → LatestOf (settled w .book) m b → a ≡ b
+    -- a cold collector takes a card that kept faith, exactly when no counter is spent
+    pub faithful-card-is-taken : (s : FlatState) → w .state ≡ some s → s .phase ≡ cold → (file out : List ℕ) → FaithfulFile (settled w .vault .s) (settled w .card) file
+        → TakenUnlessSpent (settled w .vault) (returned s (paviluko-recover file (faithfulLog (settled w .card)) out) .reply .said)
+    -- paviluko_load takes the vault's numbers after any list, names no store, and hands back a cold collector
+    pub load-is-taken : (loaded (settled w .vault) key .reply .said ≡ saysNothing) × (loaded (settled w .vault) key .reply .state .phase ≡ cold)
+    -- the card that kept faith has a file of version S where S > 0
+    pub card-has-a-file : (file : List ℕ) × FaithfulFile (settled w .vault .s) (settled w .card) file
+    -- and what it hands over keeps to the premises
+    pub faithful-card-is-honest : (file out : List ℕ) → FaithfulFile (settled w .vault .s) (settled w .card) file → Honest key w (call (paviluko-recover file (faithfulLog (settled w .card)) out))
 
-  -- the latest of all writes to a meter in the book is one entry
-  abbrev pub LatestIsOne : Type 0
-  LatestIsOne = (es : List Event) → Listed es → (m : ℕ) (a b : Entry) → LatestOf (settled (after es) .book) m a → LatestOf (settled (after es) .book) m b → a ≡ b
-
-  -- a cold collector takes a card that kept faith, exactly when no counter is spent
-  abbrev pub FaithfulCardIsTaken : Type 0
-  FaithfulCardIsTaken = (es : List Event) → Listed es → (s : FlatState) → after es .state ≡ some s → s .phase ≡ cold → (file out : List ℕ)
-      → FaithfulFile (settled (after es) .vault .s) (settled (after es) .card) file
-      → TakenUnlessSpent (settled (after es) .vault) (returned s (paviluko-recover file (faithfulLog (settled (after es) .card)) out) .reply .said)
-
-  -- paviluko_load takes the vault's numbers after any list, names no store, and hands back a cold collector
-  abbrev pub LoadIsTaken : Type 0
-  LoadIsTaken = (es : List Event) → Listed es → (loaded (settled (after es) .vault) key .reply .said ≡ saysNothing) × (loaded (settled (after es) .vault) key .reply .state .phase ≡ cold)
-
-  -- the card that kept faith has a file of version S where S > 0
-  abbrev pub CardHasAFile : Type 0
-  CardHasAFile = (es : List Event) → Listed es → (file : List ℕ) × FaithfulFile (settled (after es) .vault .s) (settled (after es) .card) file
-
-  -- and what it hands over keeps to the premises
-  abbrev pub FaithfulCardIsHonest : Type 0
-  FaithfulCardIsHonest = (es : List Event) → Listed es → (file out : List ℕ) → FaithfulFile (settled (after es) .vault .s) (settled (after es) .card) file
-      → Honest key (after es) (call (paviluko-recover file (faithfulLog (settled (after es) .card)) out))
-
-  pub record Claim : Type 0 where
+  pub record OverC : Type 0 where
     pub run-is-the-definitions : RunIsTheDefinitions
     pub premises-are-the-definitions : PremisesAreTheDefinitions
     pub every-list-is-one : EveryListIsOne
-    pub table-is-the-books : TableIsTheBooks
-    pub latest-is-one : LatestIsOne
-    pub faithful-card-is-taken : FaithfulCardIsTaken
-    pub load-is-taken : LoadIsTaken
-    pub card-has-a-file : CardHasAFile
-    pub faithful-card-is-honest : FaithfulCardIsHonest
+    pub claim : (es : List Event) → Listed es → Claim (after es)
 
 -- demand 3 over C, for every key of 16 bytes
 abbrev pub Demand3 : Type 0
-Demand3 = (key : List ℕ) → length key ≡ keyLen → Claim key
+Demand3 = (key : List ℕ) → length key ≡ keyLen → OverC key

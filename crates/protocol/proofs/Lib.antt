@@ -6,7 +6,7 @@
 -- a card that kept faith. SheetLaws: the bench sheet.
 -- Invariant: what holds of every list. StoreLaws: how each invariant takes each store. DueLaws: tests of the phase and the due store. Listed, Phases: the state's lists, its tie in service.
 -- KeepRecover, KeepCold, KeepAccept, KeepPoint, KeepCheckpoint, KeepTruncate: each call keeps the invariants. Apart: bytes and what they hold.
--- Runs: every list keeps the invariants. RiseLaws: no vault number falls, and older files may go. ServiceLaws: what 01 says of a collector in service, after any list. Theorem: demand 3. WorkedLaws: of a worked list, an honest card is taken and hostile ones are refused; another has every call, both kinds of cut and a broken recovery.
+-- Runs: every list keeps the invariants. RiseLaws: no vault number falls, and older files may go. ForgetLaws: so may files of other versions. ServiceLaws: what 01 says of a collector in service, after any list. Theorem: demand 3. WorkedLaws: of a worked list, an honest card is taken and hostile ones are refused; another has every call, both kinds of cut and a broken recovery.
 pub mod BlankLaws
 pub mod SpentLaws
 pub mod StopLaws
@@ -38,6 +38,7 @@ pub mod KeepCheckpoint
 pub mod KeepTruncate
 pub mod Apart
 pub mod Runs
+pub mod ForgetLaws
 pub mod RiseLaws
 pub mod SinceLaws
 pub mod ServiceLaws

@@ -12,6 +12,7 @@ use borrow.Author.Tests.{le-leb, le-ltb, eq-eqb, ne-eqb}
 use Rattle.octets.proofs.EveryLaws.{and-both}
 use Rattle.table.specs.Table.{lanes, emptyTable}
 use Rattle.table.proofs.OrderLaws.{clash}
+use Rattle.table.specs.declared.Entry.{Entry}
 use Rattle.table.specs.declared.Table.{Table}
 use Rattle.sealed.specs.Aead.{aesGcm}
 use Rattle.sealed.specs.Record.{Opened}
@@ -25,9 +26,9 @@ use Rattle.protocol.specs.Load.{keyLen, loaded, load}
 use Rattle.protocol.specs.Replay.{Read, orStop, replay}
 use Rattle.protocol.specs.Recover.{logMax, spent, recovered, otherVersion, readFile, readFrom, recoverRead, recoverFirst, recoverPhase, recover, inService}
 use Rattle.protocol.specs.LatestOf.{LatestOf}
-use Rattle.protocol.specs.History.{call, callRecover, World, Lasting, settled, done, bookAfter, afterSaid, afterAnswer, answer, answerOf, addsOf, next, isTaken, PutOut, Honest, faithfulLog, FaithfulFile}
-use Rattle.protocol.specs.Beside.{longestLog, LogIsShort, Beside}
-use Rattle.protocol.specs.Claim.{TakenUnlessSpent, HasLatest, after, TableIsTheBooks, LatestIsOne, FaithfulCardIsTaken, LoadIsTaken, CardHasAFile, FaithfulCardIsHonest, Demand3}
+use Rattle.protocol.specs.History.{call, callRecover, World, Lasting, settled, done, bookAfter, afterSaid, afterAnswer, answer, answerOf, addsOf, next, run, isTaken, PutOut, Honest, faithfulLog, FaithfulFile}
+use Rattle.protocol.specs.Beside.{longestLog, LogIsShort, forgotten, OtherFilesMayGo, Beside}
+use Rattle.protocol.specs.Claim.{TakenUnlessSpent, HasLatest, after, Claim, Demand3}
 use Rattle.protocol.specs.declared.Vault.{Vault}
 use Rattle.protocol.specs.declared.State.{State}
 use Rattle.protocol.specs.declared.Phase.{Phase}
@@ -45,7 +46,8 @@ use Rattle.protocol.proofs.Invariant.{Durable, vaultTo, Durably, Cold, 
 use Rattle.protocol.proofs.TallyLaws.{recovery-tally}
 use Rattle.protocol.proofs.ServiceLaws.{vault-ok, accepts, seals, commits, points, keeps, counts, nine, three}
 use Rattle.protocol.proofs.Apart.{mem-map, map-mem, faithful-log}
-use Rattle.protocol.proofs.Runs.{next-invariant, listed-invariant}
+use Rattle.protocol.proofs.Runs.{next-invariant, run-invariant, listed-invariant}
+use Rattle.protocol.proofs.ForgetLaws.{forgotten-invariant}
 use Rattle.protocol.proofs.RiseLaws.{rises, never-falls, older-files}
 
 -- ---- an accepted Recover call leaves no cold state
@@ -91,13 +93,6 @@ module _ (key : List ℕ) where
       let d = i .after in
       let f = warm-table c d (c .phase) h (i .link .rest) in
       (c, refl, subst (λ (x : List Opened). HasLatest x (c .table)) (sym (i .apart′ .book)) (record { long = f .canon .long; each = full-latest (d .book) (c .table) f }))
-
-  pub safe : TableIsTheBooks key
-  safe es p c q file log room h yea =
-      let w = after key es in
-      let e = after-recover w c file log room q in
-      let i = next-invariant key w (call (callRecover file log room)) (listed-invariant key es p) h in
-      subst HasBooks (sym e) (safe-said (recover c file log room .said) (settled w) (some c) (recover c file log room .state) (recover c file log room .put) (warm c file log room) yea (subst (Invariant key) e i))
 
   -- ---- the faithful card
 
@@ -168,23 +163,11 @@ module _ (key : List ℕ) where
   unless-spent : (x : Vault) (said : Said) → said ≡ cond (spent x) (refused 8 []) (taken (S.N (suc (x .n))) 0) → TakenUnlessSpent x said
   unless-spent x said e = record { takes = λ u. e ∙ rw (unspent-passes x u); spent = λ h. e ∙ rw (spent-else x h) }
 
-  pub live : FaithfulCardIsTaken key
-  live es p c q e file room f =
-      let i = listed-invariant key es p in
-      unless-spent _ _ (live-at c (i .after) (settled (after key es)) file room e (i .then) (subst (λ (s : Option State). LinkedIf key s (i .after)) q (i .link)) (i .apart′) f)
-
   -- ---- Load, the file, the length
 
   load-at : (x : Vault) → length key ≡ keyLen → vaultOk x ≡ true → load x key ≡ taking (loaded x key) S.Nothing []
   unfolding load refuse
   load-at x long v = rw (v, eq-eqb (length key) keyLen long)
-
-  pub loads : length key ≡ keyLen → LoadIsTaken key
-  unfolding loaded
-  loads long es p =
-      let i = listed-invariant key es p in
-      let e = load-at (settled (after key es) .vault) long (ap vaultOk (i .apart′ .vault) ∙ vault-ok (i .after) (i .then)) in
-      (ap (λ (a : Answered). a .said) e, ap (λ (a : Answered). a .state .phase) e)
 
   has-file : (s : ℕ) (d : Durable) (a : Lasting) → d .vault .s ≡ s → Durably d → Apart key a d → (file : List ℕ) × FaithfulFile s (a .card) file
   unfolding FaithfulFile
@@ -199,9 +182,6 @@ module _ (key : List ℕ) where
           version-is (aesGcm key) (g .version) (g .seal) (g .table) (omega (arith, fw .version)) ∙ k .2 ∙ q,
         ),
       )
-
-  pub files : CardHasAFile key
-  files es p = let i = listed-invariant key es p in has-file (settled (after key es) .vault .s) (i .after) (settled (after key es)) (ap (λ (x : Vault). x .s) (sym (i .apart′ .vault))) (i .then) (i .apart′)
 
   -- what the card hands over was put out: its records one by one, and its file
   honest-file : (s : ℕ) (w : World) (d : Durable) (file : List ℕ) → Durably d → Apart key (settled w) d → FaithfulFile s (settled w .card) file → (f : OpenedFile) → openFile (aesGcm key) file ≡ some f → PutOut w file
@@ -221,24 +201,47 @@ module _ (key : List ℕ) where
       let s = mem-recs (d .spots) (x .0) (x .1) in
       rw (x .2) (h .out-record (x .0) (subst (In (d .sealed)) (sym (s .2)) (i .card .known (s .0) (s .1))))
 
-  pub honest : FaithfulCardIsHonest key
-  unfolding Honest
-  honest es p file room f =
-      let w = after key es in
-      let i = listed-invariant key es p in
-      (λ b r m o. honest-record w (i .after) (i .then) (i .apart′) b m, honest-file (settled w .vault .s) w (i .after) file (i .then) (i .apart′) f)
-
-  pub one : LatestIsOne key
-  one es p m x y =
-      let i = listed-invariant key es p in
-      let d = i .after in
-      subst (λ (b : List Opened). LatestOf b m x → LatestOf b m y → x ≡ y) (sym (i .apart′ .book))
-      (latest-one (d .book) (λ r s j k. i .then .sealed .single r s (i .then .book .known r j) (i .then .book .known s k)) m x y)
-
   pub short : LogIsShort key
   short es p =
       let i = listed-invariant key es p in
       subst (λ (x : List ℕ). length x ≤ longestLog) (sym (faithful-log key (settled (after key es)) (i .after) (i .apart′) (i .then .card .rising))) (log-short (i .after) (i .then))
+
+  -- ---- the claim, of a world that keeps the invariants
+
+  module _ (w : World) (i : Invariant key w) where
+    safe : (c : State) → w .state ≡ some c → (file log : List ℕ) (room : ℕ) → Honest key w (call (callRecover file log room)) → isTaken (recover c file log room .said) ≡ true
+        → HasBooks (next key w (call (callRecover file log room)))
+    safe c q file log room h yea =
+        let e = after-recover w c file log room q in
+        let j = next-invariant key w (call (callRecover file log room)) i h in
+        subst HasBooks (sym e) (safe-said (recover c file log room .said) (settled w) (some c) (recover c file log room .state) (recover c file log room .put) (warm c file log room) yea (subst (Invariant key) e j))
+
+    live : (c : State) → w .state ≡ some c → c .phase ≡ F.Cold → (file : List ℕ) (room : ℕ) → FaithfulFile (settled w .vault .s) (settled w .card) file
+        → TakenUnlessSpent (settled w .vault) (recover c file (faithfulLog (settled w .card)) room .said)
+    live c q e file room f =
+        unless-spent _ _ (live-at c (i .after) (settled w) file room e (i .then) (subst (λ (s : Option State). LinkedIf key s (i .after)) q (i .link)) (i .apart′) f)
+
+    loads : length key ≡ keyLen → (load (settled w .vault) key .said ≡ taken S.Nothing 0) × (load (settled w .vault) key .state .phase ≡ F.Cold)
+    unfolding loaded
+    loads long =
+        let e = load-at (settled w .vault) long (ap vaultOk (i .apart′ .vault) ∙ vault-ok (i .after) (i .then)) in
+        (ap (λ (a : Answered). a .said) e, ap (λ (a : Answered). a .state .phase) e)
+
+    files : (file : List ℕ) × FaithfulFile (settled w .vault .s) (settled w .card) file
+    files = has-file (settled w .vault .s) (i .after) (settled w) (ap (λ (x : Vault). x .s) (sym (i .apart′ .vault))) (i .then) (i .apart′)
+
+    honest : (file : List ℕ) (room : ℕ) → FaithfulFile (settled w .vault .s) (settled w .card) file → Honest key w (call (callRecover file (faithfulLog (settled w .card)) room))
+    unfolding Honest
+    honest file room f = (λ b r m o. honest-record w (i .after) (i .then) (i .apart′) b m, honest-file (settled w .vault .s) w (i .after) file (i .then) (i .apart′) f)
+
+    one : (m : ℕ) (a b : Entry) → LatestOf (settled w .book) m a → LatestOf (settled w .book) m b → a ≡ b
+    one m x y =
+        let d = i .after in
+        subst (λ (b : List Opened). LatestOf b m x → LatestOf b m y → x ≡ y) (sym (i .apart′ .book))
+        (latest-one (d .book) (λ r s j k. i .then .sealed .single r s (i .then .book .known r j) (i .then .book .known s k)) m x y)
+
+    claims : length key ≡ keyLen → Claim key w
+    claims long = record { table-is-the-books = safe; latest-is-one = one; faithful-card-is-taken = live; load-is-taken = loads long; card-has-a-file = files; faithful-card-is-honest = honest }
 
 -- the longest log, in figures
 pub longest-is : longestLog ≡ 202752
@@ -247,7 +250,13 @@ longest-is = refl
 -- ---- DEMAND 3
 
 pub demand-3 : Demand3
-demand-3 key long = record { table-is-the-books = safe key; latest-is-one = one key; faithful-card-is-taken = live key; load-is-taken = loads key long; card-has-a-file = files key; faithful-card-is-honest = honest key }
+demand-3 key long es p = claims key (after key es) (listed-invariant key es p) long
+
+others : (key : List ℕ) → OtherFilesMayGo key
+others key long es p n left among file f more q =
+    let w = after key es in
+    let i = forgotten-invariant key w (listed-invariant key es p) n left among file f in
+    claims key (run key (forgotten left w) more) (run-invariant key more (forgotten left w) i q) long
 
 pub beside : (key : List ℕ) → Beside key
-beside key = record { log-is-short = short key; no-store-lowers = rises key; stored-s-never-falls = never-falls key; older-files-may-go = older-files key; recovers = recovery-tally; accept-says = accepts key; seals-the-accepted = seals key; commit-takes = commits key; point-says = points key; point-is-kept = keeps key; points-count = counts key; truncates-nine = nine key; checkpoints-three = three key }
+beside key = record { log-is-short = short key; no-store-lowers = rises key; stored-s-never-falls = never-falls key; older-files-may-go = older-files key; other-files-may-go = others key; recovers = recovery-tally; accept-says = accepts key; seals-the-accepted = seals key; commit-takes = commits key; point-says = points key; point-is-kept = keeps key; points-count = counts key; truncates-nine = nine key; checkpoints-three = three key }

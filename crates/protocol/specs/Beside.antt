@@ -6,7 +6,7 @@ use Prim.Native.Nat.{ℕ, suc, _+_, _*_, _≤_, _<_}
 use mathlib.Core.Path.{_≡_}
 use mathlib.Core.Bool.{Bool, true, false, cond, not, _&&_, _||_}
 use mathlib.Core.List.{List, [], _∷_, _++_, List·Memᴰ}
-use mathlib.Core.Option.{some}
+use mathlib.Core.Option.{Option, some, none}
 use lib.Dec.{leb, ltb, eqb}
 use lib.ListN.{length}
 use Rattle.octets.specs.Lists.{at}
@@ -25,15 +25,20 @@ use Rattle.protocol.specs.Point.{point}
 use Rattle.protocol.specs.Checkpoint.{checkpoint}
 use Rattle.protocol.specs.Truncate.{pointsOf, findPoint, truncate}
 use Rattle.protocol.specs.Recover.{recover}
+use Rattle.protocol.specs.Load.{keyLen}
 use Rattle.protocol.specs.Tally.{recoveryStores, truncateStores, checkpointStores, answers, putBy, Names, Serves, Dropped, Covered, Truncates}
-use Rattle.protocol.specs.History.{Call, Event, call, Placed, placedFrom, Card, newWorld, settled, next, run, isTaken, Honest, Premises, faithfulLog, FaithfulFile}
+use Rattle.protocol.specs.History.{Call, Event, call, Placed, placedFrom, Card, World, newWorld, nothingPending, settled, next, run, isTaken, Honest, Premises, faithfulLog, FaithfulFile}
 use Rattle.protocol.specs.Since.{Since, nothingSince, sinceRun, anyFrom, standing}
-use Rattle.protocol.specs.Claim.{after, Listed}
+use Rattle.protocol.specs.Claim.{after, Listed, Claim}
 use Rattle.protocol.specs.declared.Vault.{Vault}
 use Rattle.protocol.specs.declared.Point.{Point}
 use Rattle.protocol.specs.declared.State.{State}
 use Rattle.protocol.specs.declared.Phase.the-variants as F
+use Rattle.protocol.specs.declared.Due.{Due}
 use Rattle.protocol.specs.declared.Due.the-variants as D
+use Rattle.protocol.specs.declared.CheckpointStep.the-variants as K
+use Rattle.protocol.specs.declared.RecoverStep.the-variants as G
+use Rattle.protocol.specs.declared.RecoverNumber.the-variants as M
 use Rattle.protocol.specs.declared.Store.{Store}
 use Rattle.protocol.specs.declared.Store.the-variants as S
 
@@ -65,15 +70,49 @@ unfoldable pub laneOn : ℕ → List Placed → ℕ
 laneOn l [] = 0
 laneOn l (x ∷ xs) = cond (eqb (laneOf (x .bytes)) l) (suc (laneOn l xs)) (laneOn l xs)
 
+abbrev pub Among : List (List ℕ) → List (List ℕ) → Type 0
+Among left all = (f : List ℕ) → List·Memᴰ f left → List·Memᴰ f all
+
 -- of all the files only those of a version below s are not left
 pub record Lacks (s : ℕ) (all left : List (List ℕ)) : Type 0 where
-  pub among : (f : List ℕ) → List·Memᴰ f left → List·Memᴰ f all
+  pub among : Among left all
   pub kept : (f : List ℕ) → List·Memᴰ f all → s ≤ versionOf f → List·Memᴰ f left
+
+-- the card with the files that are left
+abbrev pub cardLeft : List (List ℕ) → Card → Card
+cardLeft left d = record { records = d .records; files = left }
 
 -- a file is faithful of a card exactly where it is of the card with the files that are left
 pub record SameFaith (s : ℕ) (d : Card) (left : List (List ℕ)) (file : List ℕ) : Type 0 where
-  pub still : FaithfulFile s d file → FaithfulFile s (record { records = d .records; files = left }) file
-  pub only : FaithfulFile s (record { records = d .records; files = left }) file → FaithfulFile s d file
+  pub still : FaithfulFile s d file → FaithfulFile s (cardLeft left d) file
+  pub only : FaithfulFile s (cardLeft left d) file → FaithfulFile s d file
+
+-- the store of S is the one that is due
+unfoldable pub sDue : Due → Bool
+sDue D.Nothing = false
+sDue D.Record = false
+sDue (D.Checkpoint K.File) = false
+sDue (D.Checkpoint K.Version) = true
+sDue (D.Truncate position step) = false
+sDue (D.Recover (G.File second)) = false
+sDue (D.Recover (G.Number (M.S second))) = true
+sDue (D.Recover (G.Number M.N)) = false
+sDue (D.Recover (G.Number (M.R lane))) = false
+sDue (D.Recover (G.Number M.E)) = false
+sDue (D.Recover (G.Number (M.V lane))) = false
+sDue (D.Recover G.Empty) = false
+
+unfoldable pub NoSDue : Option State → Type 0
+NoSDue none = Unit {0}
+NoSDue (some c) = sDue (c .due) ≡ false
+
+-- the pending store is done, and of the card's files these are left
+unfoldable pub forgotten : List (List ℕ) → World → World
+forgotten left w = record {
+  lasting = record { vault = settled w .vault; card = cardLeft left (settled w .card); book = settled w .book; sealings = settled w .sealings };
+  pending = nothingPending;
+  state = w .state;
+}
 
 module _ (key : List ℕ) where
   -- ---- the vault and the card
@@ -96,6 +135,13 @@ module _ (key : List ℕ) where
   OlderFilesMayGo = (es more : List Event) → Listed key es → Premises key (after key es) more
       → (left : List (List ℕ)) → Lacks (after key es .lasting .vault .s) (settled (run key (after key es) more) .card .files) left
       → (file : List ℕ) → SameFaith (settled (run key (after key es) more) .vault .s) (settled (run key (after key es) more) .card) left file
+
+  -- And files of other versions than S, those that a cut before S has left among them, may go whenever the store of S is not the one that is due:
+  -- the whole claim holds of the card that is left, then and whatever comes after.
+  abbrev pub OtherFilesMayGo : Type 0
+  OtherFilesMayGo = length key ≡ keyLen → (es : List Event) → Listed key es → NoSDue (after key es .state)
+      → (left : List (List ℕ)) → Among left (settled (after key es) .card .files) → (file : List ℕ) → FaithfulFile (settled (after key es) .vault .s) (cardLeft left (settled (after key es) .card)) file
+      → (more : List Event) → Premises key (forgotten left (after key es)) more → Claim key (run key (forgotten left (after key es)) more)
 
   -- ---- recovery, from any state
 
@@ -179,6 +225,7 @@ module _ (key : List ℕ) where
     pub no-store-lowers : NoStoreLowers
     pub stored-s-never-falls : StoredSNeverFalls
     pub older-files-may-go : OlderFilesMayGo
+    pub other-files-may-go : OtherFilesMayGo
     pub recovers : Recovers
     pub accept-says : AcceptSays
     pub seals-the-accepted : SealsTheAccepted

@@ -1,4 +1,4 @@
--- Demand 3, as 01's section on the list, the book and the card has it: one claim about the whole list. What is said beside it stands in Beside.
+-- Demand 3, as 01's section on the list, the book and the card has it: one claim about what the whole list comes to. What is said beside it stands in Beside.
 -- The proof is in proofs/Theorem.antt.
 -- Assumes nothing.
 use Prim.Native.Nat.{ℕ, suc, _-_, _^_, _≤_, _<_}
@@ -47,45 +47,25 @@ module _ (key : List ℕ) where
   abbrev pub Listed : List Event → Type 0
   Listed es = Premises key newWorld es
 
-  -- "After the call by which Recover is accepted, and after each that goes on with its stores, the table in the state is the book's table,
-  -- entry for entry": whatever is handed over as checkpoint and log.
-  abbrev pub TableIsTheBooks : Type 0
-  TableIsTheBooks = (es : List Event) → Listed es → (c : State) → after es .state ≡ some c → (file log : List ℕ) (room : ℕ) → Honest key (after es) (call (callRecover file log room))
-      → isTaken (recover c file log room .said) ≡ true
-      → (d : State) × (next key (after es) (call (callRecover file log room)) .state ≡ some d) × HasLatest (next key (after es) (call (callRecover file log room)) .lasting .book) (d .table)
+  -- the claim, of the world that a list comes to
+  pub record Claim (w : World) : Type 0 where
+    -- "After the call by which Recover is accepted, and after each that goes on with its stores, the table in the state is the book's table,
+    -- entry for entry": whatever is handed over as checkpoint and log.
+    pub table-is-the-books : (c : State) → w .state ≡ some c → (file log : List ℕ) (room : ℕ) → Honest key w (call (callRecover file log room)) → isTaken (recover c file log room .said) ≡ true
+        → (d : State) × (next key w (call (callRecover file log room)) .state ≡ some d) × HasLatest (next key w (call (callRecover file log room)) .lasting .book) (d .table)
+    -- the latest of all writes to a meter in the book is one entry
+    pub latest-is-one : (m : ℕ) (a b : Entry) → LatestOf (settled w .book) m a → LatestOf (settled w .book) m b → a ≡ b
+    -- "After any such list, recovery of a cold collector from a card that kept faith as 01 defines is accepted exactly when no counter is
+    -- spent".
+    pub faithful-card-is-taken : (c : State) → w .state ≡ some c → c .phase ≡ F.Cold → (file : List ℕ) (room : ℕ) → FaithfulFile (settled w .vault .s) (settled w .card) file
+        → TakenUnlessSpent (settled w .vault) (recover c file (faithfulLog (settled w .card)) room .said)
+    -- Load takes the vault's numbers after any list, names no store, and hands back a cold collector: so there is always one
+    pub load-is-taken : (load (settled w .vault) key .said ≡ taken S.Nothing 0) × (load (settled w .vault) key .state .phase ≡ F.Cold)
+    -- the card that kept faith has a file of version S where S > 0
+    pub card-has-a-file : (file : List ℕ) × FaithfulFile (settled w .vault .s) (settled w .card) file
+    -- and what it hands over keeps to the premises: neither half of the claim is without the other
+    pub faithful-card-is-honest : (file : List ℕ) (room : ℕ) → FaithfulFile (settled w .vault .s) (settled w .card) file → Honest key w (call (callRecover file (faithfulLog (settled w .card)) room))
 
-  -- the latest of all writes to a meter in the book is one entry
-  abbrev pub LatestIsOne : Type 0
-  LatestIsOne = (es : List Event) → Listed es → (m : ℕ) (a b : Entry) → LatestOf (settled (after es) .book) m a → LatestOf (settled (after es) .book) m b → a ≡ b
-
-  -- "After any such list, recovery of a cold collector from a card that kept faith as 01 defines is accepted exactly when no counter is
-  -- spent".
-  abbrev pub FaithfulCardIsTaken : Type 0
-  FaithfulCardIsTaken = (es : List Event) → Listed es → (c : State) → after es .state ≡ some c → c .phase ≡ F.Cold → (file : List ℕ) (room : ℕ)
-      → FaithfulFile (settled (after es) .vault .s) (settled (after es) .card) file
-      → TakenUnlessSpent (settled (after es) .vault) (recover c file (faithfulLog (settled (after es) .card)) room .said)
-
-  -- Load takes the vault's numbers after any list, names no store, and hands back a cold collector: so there is always one
-  abbrev pub LoadIsTaken : Type 0
-  LoadIsTaken = (es : List Event) → Listed es → (load (settled (after es) .vault) key .said ≡ taken S.Nothing 0) × (load (settled (after es) .vault) key .state .phase ≡ F.Cold)
-
-  -- the card that kept faith has a file of version S where S > 0
-  abbrev pub CardHasAFile : Type 0
-  CardHasAFile = (es : List Event) → Listed es → (file : List ℕ) × FaithfulFile (settled (after es) .vault .s) (settled (after es) .card) file
-
-  -- and what it hands over keeps to the premises: neither half of the claim is without the other
-  abbrev pub FaithfulCardIsHonest : Type 0
-  FaithfulCardIsHonest = (es : List Event) → Listed es → (file : List ℕ) (room : ℕ) → FaithfulFile (settled (after es) .vault .s) (settled (after es) .card) file
-      → Honest key (after es) (call (callRecover file (faithfulLog (settled (after es) .card)) room))
-
-  pub record Claim : Type 0 where
-    pub table-is-the-books : TableIsTheBooks
-    pub latest-is-one : LatestIsOne
-    pub faithful-card-is-taken : FaithfulCardIsTaken
-    pub load-is-taken : LoadIsTaken
-    pub card-has-a-file : CardHasAFile
-    pub faithful-card-is-honest : FaithfulCardIsHonest
-
--- demand 3, for every key of 16 bytes
+-- demand 3, for every key of 16 bytes and every list that keeps to the premises
 abbrev pub Demand3 : Type 0
-Demand3 = (key : List ℕ) → length key ≡ keyLen → Claim key
+Demand3 = (key : List ℕ) → length key ≡ keyLen → (es : List Event) → Listed key es → Claim key (after key es)
