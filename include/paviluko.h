@@ -48,7 +48,7 @@
  * commit says 9 to a record read back from the card, read it again and call again; if it says 9 again, the card has not
  * kept the record: load, and recover with a log that leaves this record out, for recover would say 9 to it as well. The
  * number is then given up, and the transaction is accepted anew. (Were the record one that is visible, recover would say
- * 13. 10 and 11 mean that another record was handed over than the one that is next in its lane.)
+ * 11 or 13. In commit, 10 and 11 mean that another record was handed over than the one that is next in its lane.)
  *
  * WHAT IS PROVED. Each function below returns, for every argument, what the definitions in crates/protocol/specs say (the
  * promises stand in crates/paviluko/src/lib.rt); and of any run of these calls with cuts, whatever card is handed over,
