@@ -27,13 +27,13 @@ use Rattle.protocol.specs.declared.Store.the-variants as S
 use Rattle.protocol.proofs.Theorem.{demand-3}
 use Rattle.boundary.specs.Flat.{phaseNumber, phaseOf, freeze}
 use Rattle.boundary.specs.Replies.{named, saidOf, replyOf}
-use Rattle.boundary.specs.Run.{Call, Event, call, paviluko-recover, Returned, returned, loaded, World, newWorld, settled, asked, eventOf, behind, goesOn, goesBack, behindCall, next, run, flatState, flatWorld, Honest}
-use Rattle.boundary.specs.Claim.{cold, saysNothing, TakenUnlessSpent, after, Listed, RunIsTheDefinitions, Claim, Demand3}
+use Rattle.boundary.specs.Run.{Call, Event, call, paviluko-recover, Returned, returned, loaded, World, newWorld, settled, asked, eventOf, afterReply, afterTaken, resting, afterCall, next, run, flatState, flatWorld, Honest}
+use Rattle.boundary.specs.Claim.{TakenUnlessSpent, after, Listed, RunIsTheDefinitions, Claim, Demand3}
 use Rattle.boundary.specs.declared.FlatState.{FlatState}
 use Rattle.boundary.specs.declared.Said.{Said as SaidNumbers}
 use Rattle.boundary.proofs.FlatLaws.{phase-back}
 use Rattle.boundary.proofs.NumberLaws.{number-tells}
-use Rattle.boundary.proofs.RunLaws.{returned-is, call-numbered, next-is, run-is, premises-are, premises-too, every-list}
+use Rattle.boundary.proofs.RunLaws.{returned-is, call-numbered, event-is, run-is, premises-are, premises-too, every-list}
 
 -- ---- states
 
@@ -48,10 +48,10 @@ unfolding flatState
 state-of none s e = let z : _≡_ {A = ℕ} 0 1 = cc in absurd (omega arith)
 state-of (some c) s e = (c, refl, ap (orElse s) e)
 
--- phase 1 is cold
-is-cold : (c : State) → freeze c .phase ≡ cold → c .phase ≡ F.Cold
+-- a state written down with the phase of a cold one is cold
+is-cold : (c : State) → freeze c .phase ≡ phaseNumber F.Cold → c .phase ≡ F.Cold
 unfolding freeze phaseOf
-is-cold c e = sym (phase-back (c .phase)) ∙ ap phaseOf e
+is-cold c e = sym (phase-back (c .phase)) ∙ ap phaseOf e ∙ phase-back F.Cold
 
 -- ---- what paviluko_recover says
 
@@ -73,13 +73,13 @@ module _ (c : State) (file log out : List ℕ) where
   unless-spent x h = record { takes = λ u. said-is ∙ ap saidOf (h .takes u); spent = λ u. said-is ∙ ap saidOf (h .spent u) }
 
 -- whatever the number, the state behind a call is the one in its reply
-reply-state : (b : Bool) (d : Lasting) (adds : Option Opened) (r : Returned) → cond b (goesOn d adds r) (goesBack d (some (r .reply .state))) .state ≡ some (r .reply .state)
-unfolding goesOn goesBack
+reply-state : (b : Bool) (d : Lasting) (adds : Option Opened) (r : Returned) → cond b (afterTaken d adds r) (resting d (some (r .reply .state))) .state ≡ some (r .reply .state)
+unfolding afterTaken resting
 reply-state true d adds r = refl
 reply-state false d adds r = refl
 
-call-state : (key : List ℕ) (d : Lasting) (k : Call) (s : FlatState) → behindCall key d k (some s) .state ≡ some (returned s k .reply .state)
-unfolding behindCall behind
+call-state : (key : List ℕ) (d : Lasting) (k : Call) (s : FlatState) → afterCall key d k (some s) .state ≡ some (returned s k .reply .state)
+unfolding afterCall afterReply
 call-state key d k s = reply-state (eqb (returned s k .reply .said .number) 0) d (addsOf key (asked k)) (returned s k)
 
 module _ (key : List ℕ) where
@@ -122,12 +122,12 @@ module _ (key : List ℕ) where
       recovery = call (paviluko-recover file log out)
 
       same-next : next key (after key es) recovery ≡ flatWorld (history.next key beside (eventOf recovery))
-      same-next = ap (λ (w : World). next key w recovery) same ∙ next-is key beside recovery
+      same-next = ap (λ (w : World). next key w recovery) same ∙ event-is key beside recovery
 
       behind-state : (s : FlatState) → after key es .state ≡ some s → next key (after key es) recovery .state ≡ some (returned s (paviluko-recover file log out) .reply .state)
       unfolding next
       behind-state s q =
-          ap (λ (o : Option FlatState). behindCall key (settled (after key es)) (paviluko-recover file log out) o .state) q
+          ap (λ (o : Option FlatState). afterCall key (settled (after key es)) (paviluko-recover file log out) o .state) q
           ∙ call-state key (settled (after key es)) (paviluko-recover file log out) s
 
       -- the table in the reply is that of the state which the definitions' run comes to
@@ -156,23 +156,23 @@ module _ (key : List ℕ) where
 
     -- ---- the card that kept faith
 
-    live : (s : FlatState) → after key es .state ≡ some s → s .phase ≡ cold → (file out : List ℕ) → FaithfulFile (settled (after key es) .vault .s) (settled (after key es) .card) file
+    live : (s : FlatState) → after key es .state ≡ some s → s .phase ≡ phaseNumber F.Cold → (file out : List ℕ) → FaithfulFile (settled (after key es) .vault .s) (settled (after key es) .card) file
         → TakenUnlessSpent (settled (after key es) .vault) (returned s (paviluko-recover file (faithfulLog (settled (after key es) .card)) out) .reply .said)
     live s q co file out f =
         let c = same-state s q in
         let f′ = subst (λ (d : Lasting). FaithfulFile (d .vault .s) (d .card) file) same-settled f in
-        let co′ = is-cold (c .0) (subst (λ (t : FlatState). t .phase ≡ cold) (sym (c .2)) co) in
+        let co′ = is-cold (c .0) (subst (λ (t : FlatState). t .phase ≡ phaseNumber F.Cold) (sym (c .2)) co) in
         let r = holds .faithful-card-is-taken (c .0) (c .1) co′ file (length out) f′ in
         let log = faithfulLog (history.settled beside .card) in
         let x = unless-spent (c .0) file log out (history.settled beside .vault) r in
         subst (λ (d : Lasting). TakenUnlessSpent (d .vault) (returned s (paviluko-recover file (faithfulLog (d .card)) out) .reply .said)) (sym same-settled)
         (subst (λ (t : FlatState). TakenUnlessSpent (history.settled beside .vault) (returned t (paviluko-recover file log out) .reply .said)) (c .2) x)
 
-    loads : (loaded (settled (after key es) .vault) key .reply .said ≡ saysNothing) × (loaded (settled (after key es) .vault) key .reply .state .phase ≡ cold)
+    loads : (loaded (settled (after key es) .vault) key .reply .said ≡ named S.Nothing 0) × (loaded (settled (after key es) .vault) key .reply .state .phase ≡ phaseNumber F.Cold)
     unfolding replyOf saidOf named freeze phaseNumber
     loads =
         let r = holds .load-is-taken in
-        subst (λ (d : Lasting). (loaded (d .vault) key .reply .said ≡ saysNothing) × (loaded (d .vault) key .reply .state .phase ≡ cold)) (sym same-settled) (ap saidOf (r .0), ap phaseNumber (r .1))
+        subst (λ (d : Lasting). (loaded (d .vault) key .reply .said ≡ named S.Nothing 0) × (loaded (d .vault) key .reply .state .phase ≡ phaseNumber F.Cold)) (sym same-settled) (ap saidOf (r .0), ap phaseNumber (r .1))
 
     files : (file : List ℕ) × FaithfulFile (settled (after key es) .vault .s) (settled (after key es) .card) file
     files =

@@ -28,7 +28,7 @@ unfoldable pub numberedBy : Said → List ℕ → Type 0
 numberedBy (refused n vs) put = numberOk n ≡ true
 numberedBy (taken st n) put = n ≡ length put
 
--- where the answer is a refusal, its number is one of 01's; where it is none, its number is how many bytes are put out
+-- where the answer is a refusal, its number is one of 01's; where the call is taken, it says how many bytes it puts out
 pub record Numbered (a : Answered) : Type 0 where
   pub by : numberedBy (a .said) (a .put)
 

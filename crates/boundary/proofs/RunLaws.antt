@@ -5,9 +5,10 @@
 use Prim.Native.Nat.{ℕ}
 use mathlib.Core.Path.{_≡_, refl, sym, ap, ap₂, subst, _∙_}
 use mathlib.Core.Bool.{true, false}
-use mathlib.Core.List.{List, [], _∷_, _++_, map}
+use mathlib.Core.List.{List, [], _∷_, map}
 use mathlib.Core.Option.{Option, some, none}
-use lib.ListN.{length, take, drop, replicate, length-replicate}
+use lib.Seq.{take-append-seam}
+use lib.ListN.{length, drop, replicate, length-replicate}
 use Rattle.octets.specs.Lists.{putOver}
 use Rattle.sealed.specs.Record.{Opened}
 use Rattle.protocol.specs.Said.{Said, refused, taken, Answered}
@@ -26,7 +27,7 @@ use Rattle.protocol.proofs.RefusalLaws.{keptBy, Kept, accept-kept, seal-kept, c
 use Rattle.protocol.proofs.Walks.{walk-load}
 use Rattle.boundary.specs.Flat.{thaw, freeze}
 use Rattle.boundary.specs.Replies.{saidOf, replyOf, replyTo, putTo}
-use Rattle.boundary.specs.Run.{Call, paviluko-accept, paviluko-seal, paviluko-commit, paviluko-point, paviluko-checkpoint, paviluko-truncate, paviluko-recover, Event, paviluko-load, call, cut, Returned, back, returned, loaded, World, asked, eventOf, goesOn, goesBack, behind, behindCall, next, run, flatState, flatWorld, stateless, Premises}
+use Rattle.boundary.specs.Run.{Call, paviluko-accept, paviluko-seal, paviluko-commit, paviluko-point, paviluko-checkpoint, paviluko-truncate, paviluko-recover, Event, paviluko-load, call, cut, Returned, back, returned, loaded, World, asked, eventOf, afterTaken, resting, afterReply, afterCall, next, run, flatState, flatWorld, stateless, Premises}
 use Rattle.boundary.specs.declared.FlatState.{FlatState}
 use Rattle.boundary.proofs.FlatLaws.{thaw-freeze, freeze-is-known}
 use Rattle.boundary.proofs.ReplyLaws.{named-0, store-back, len-back}
@@ -88,51 +89,46 @@ load-none x k = walk-load (λ (a : Answered). putOver (a .put) [] ≡ []) (λ n 
 
 -- ---- one event
 
--- the first bytes of the buffer are those put out
-take-put : (put rest : List ℕ) → take (length put) (put ++ rest) ≡ put
-take-put [] rest = refl
-take-put (x ∷ put) rest = ap (λ (l : List ℕ). x ∷ l) (take-put put rest)
-
 -- where the call is turned down, the host goes on with the state that there was
-abbrev GoesBack : Said → Option State → Option FlatState → Type 0
-GoesBack (refused n vs) before s = s ≡ flatState before
-GoesBack (taken st n) before s = Unit {0}
+abbrev SameState : Said → Option State → Option FlatState → Type 0
+SameState (refused n vs) before s = s ≡ flatState before
+SameState (taken st n) before s = Unit {0}
 
-behind-is : (x : Said) (c : State) (put out : List ℕ) (d : Lasting) (adds : Option Opened) (before : Option State) (s : Option FlatState) → numberedBy x put → GoesBack x before s
-    → behind d adds (record { reply = record { state = freeze c; said = saidOf x }; out = putOver put out }) s ≡ flatWorld (afterSaid x d before adds c put)
-unfolding numberedBy saidOf behind goesOn goesBack flatWorld flatState afterSaid
-behind-is (refused n vs) c put out d adds before s h e = rw (other-than-0 n h, e)
-behind-is (taken st n) c put out d adds before s h e = rw (store-back st n, len-back st n, thaw-freeze c, h, take-put put (drop (length put) out), named-0 st (length put))
+after-reply-is : (x : Said) (c : State) (put out : List ℕ) (d : Lasting) (adds : Option Opened) (before : Option State) (s : Option FlatState) → numberedBy x put → SameState x before s
+    → afterReply d adds (record { reply = record { state = freeze c; said = saidOf x }; out = putOver put out }) s ≡ flatWorld (afterSaid x d before adds c put)
+unfolding numberedBy saidOf afterReply afterTaken resting flatWorld flatState afterSaid
+after-reply-is (refused n vs) c put out d adds before s h e = rw (other-than-0 n h, e)
+after-reply-is (taken st n) c put out d adds before s h e = rw (store-back st n, len-back st n, thaw-freeze c, h, take-append-seam put (drop (length put) out), named-0 st (length put))
 
 -- a load hands back no state to go on with, where it is turned down
-load-back : (x : Said) (before : Option State) → GoesBack x before (flatState before)
+load-back : (x : Said) (before : Option State) → SameState x before (flatState before)
 load-back (refused n vs) before = refl
 load-back (taken st n) before = tt
 
 -- a call hands back the state that came
-call-back : (x : Said) (c d : State) (put : List ℕ) → keptBy x c d put → GoesBack x (some c) (some (freeze d))
+call-back : (x : Said) (c d : State) (put : List ℕ) → keptBy x c d put → SameState x (some c) (some (freeze d))
 unfolding keptBy flatState
 call-back (refused n vs) c d put h = ap (λ (y : State). some (freeze y)) (h .0)
 call-back (taken st n) c d put h = tt
 
 module _ (key : List ℕ) where
   load-said : (d : Lasting) (x : Vault) (k : List ℕ) (before : Option State)
-      → behind d none (loaded x k) (flatState before) ≡ flatWorld (afterSaid (load x k .said) d before none (load x k .state) (load x k .put))
+      → afterReply d none (loaded x k) (flatState before) ≡ flatWorld (afterSaid (load x k .said) d before none (load x k .state) (load x k .put))
   unfolding replyOf
   load-said d x k before =
-      subst (λ (out : List ℕ). behind d none (record { reply = replyOf (load x k); out = out }) (flatState before) ≡ flatWorld (afterSaid (load x k .said) d before none (load x k .state) (load x k .put))) (load-none x k)
-      (behind-is (load x k .said) (load x k .state) (load x k .put) [] d none before (flatState before) (load-numbered x k .by) (load-back (load x k .said) before))
+      subst (λ (out : List ℕ). afterReply d none (record { reply = replyOf (load x k); out = out }) (flatState before) ≡ flatWorld (afterSaid (load x k .said) d before none (load x k .state) (load x k .put))) (load-none x k)
+      (after-reply-is (load x k .said) (load x k .state) (load x k .put) [] d none before (flatState before) (load-numbered x k .by) (load-back (load x k .said) before))
 
-  load-is : (d : Lasting) (x : Vault) (k : List ℕ) (before : Option State) → behind d none (loaded x k) (flatState before) ≡ flatWorld (afterAnswer d before none (answer before (callLoad x k)))
+  load-is : (d : Lasting) (x : Vault) (k : List ℕ) (before : Option State) → afterReply d none (loaded x k) (flatState before) ≡ flatWorld (afterAnswer d before none (answer before (callLoad x k)))
   unfolding afterAnswer answer answerOf firstAnswer
   load-is d x k none = load-said d x k none
   load-is d x k (some c) = load-said d x k (some c)
 
   -- a call on a state
-  call-some : (d : Lasting) (k : Call) (c : State) (a : Answered) (adds : Option Opened) (out : List ℕ) → Numbered a → Kept c a
-      → behind d adds (shownOver a out) (some (replyOf a .state)) ≡ flatWorld (afterSaid (a .said) d (some c) adds (a .state) (a .put))
+  call-some : (d : Lasting) (c : State) (a : Answered) (adds : Option Opened) (out : List ℕ) → Numbered a → Kept c a
+      → afterReply d adds (shownOver a out) (some (replyOf a .state)) ≡ flatWorld (afterSaid (a .said) d (some c) adds (a .state) (a .put))
   unfolding replyOf
-  call-some d k c a adds out n h = behind-is (a .said) (a .state) (a .put) out d adds (some c) (some (freeze (a .state))) (n .by) (call-back (a .said) c (a .state) (a .put) (h .by))
+  call-some d c a adds out n h = after-reply-is (a .said) (a .state) (a .put) out d adds (some c) (some (freeze (a .state))) (n .by) (call-back (a .said) c (a .state) (a .put) (h .by))
 
   -- without a state, none of the seven
   not-first : (k : Call) → firstAnswer (asked k) ≡ none
@@ -145,24 +141,24 @@ module _ (key : List ℕ) where
   not-first (paviluko-truncate position) = refl
   not-first (paviluko-recover file log out) = refl
 
-  call-is : (d : Lasting) (k : Call) (before : Option State) → behindCall key d k (flatState before) ≡ flatWorld (afterAnswer d before (addsOf key (asked k)) (answer before (asked k)))
-  unfolding behindCall afterAnswer answer flatState flatWorld goesBack
+  call-is : (d : Lasting) (k : Call) (before : Option State) → afterCall key d k (flatState before) ≡ flatWorld (afterAnswer d before (addsOf key (asked k)) (answer before (asked k)))
+  unfolding afterCall afterAnswer answer flatState flatWorld resting
   call-is d k none = rw (not-first k)
   call-is d k (some c) =
-      ap (λ (r : Returned). behind d (addsOf key (asked k)) r (some (r .reply .state))) (returned-is c k)
-      ∙ call-some d k c (answerOf c (asked k)) (addsOf key (asked k)) (lent k) (call-numbered c k) (call-kept c k)
+      ap (λ (r : Returned). afterReply d (addsOf key (asked k)) r (some (r .reply .state))) (returned-is c k)
+      ∙ call-some d c (answerOf c (asked k)) (addsOf key (asked k)) (lent k) (call-numbered c k) (call-kept c k)
 
-  pub next-is : (w : history.World) (e : Event) → next key (flatWorld w) e ≡ flatWorld (history.next key w (eventOf e))
-  unfolding next eventOf history.next flatWorld flatState goesBack addsOf
-  next-is w (paviluko-load x k) = load-is (history.settled w) x k (w .state)
-  next-is w (call k) = call-is (history.settled w) k (w .state)
-  next-is w (cut true) = refl
-  next-is w (cut false) = refl
+  pub event-is : (w : history.World) (e : Event) → next key (flatWorld w) e ≡ flatWorld (history.next key w (eventOf e))
+  unfolding next eventOf history.next flatWorld flatState resting addsOf
+  event-is w (paviluko-load x k) = load-is (history.settled w) x k (w .state)
+  event-is w (call k) = call-is (history.settled w) k (w .state)
+  event-is w (cut true) = refl
+  event-is w (cut false) = refl
 
   pub run-is : (es : List Event) (w : history.World) → run key (flatWorld w) es ≡ flatWorld (history.run key w (map eventOf es))
   unfolding run history.run
   run-is [] w = refl
-  run-is (e ∷ es) w = ap (λ (x : World). run key x es) (next-is w e) ∙ run-is es (history.next key w (eventOf e))
+  run-is (e ∷ es) w = ap (λ (x : World). run key x es) (event-is w e) ∙ run-is es (history.next key w (eventOf e))
 
   -- ---- the premises
 
@@ -182,12 +178,12 @@ module _ (key : List ℕ) where
   pub premises-are : (es : List Event) (w : history.World) → Premises key (flatWorld w) es → history.Premises key w (map eventOf es)
   unfolding Premises history.Premises flatWorld
   premises-are [] w p = tt
-  premises-are (e ∷ es) w p = (honest-any (stateless (flatWorld w)) (w .state) (eventOf e) (p .0), premises-are es (history.next key w (eventOf e)) (subst (λ (x : World). Premises key x es) (next-is w e) (p .1)))
+  premises-are (e ∷ es) w p = (honest-any (stateless (flatWorld w)) (w .state) (eventOf e) (p .0), premises-are es (history.next key w (eventOf e)) (subst (λ (x : World). Premises key x es) (event-is w e) (p .1)))
 
   pub premises-too : (es : List Event) (w : history.World) → history.Premises key w (map eventOf es) → Premises key (flatWorld w) es
   unfolding Premises history.Premises flatWorld
   premises-too [] w p = tt
-  premises-too (e ∷ es) w p = (honest-any w none (eventOf e) (p .0), subst (λ (x : World). Premises key x es) (sym (next-is w e)) (premises-too es (history.next key w (eventOf e)) (p .1)))
+  premises-too (e ∷ es) w p = (honest-any w none (eventOf e) (p .0), subst (λ (x : World). Premises key x es) (sym (event-is w e)) (premises-too es (history.next key w (eventOf e)) (p .1)))
 
 -- ---- every list of the definitions
 

@@ -3,7 +3,7 @@
 -- Assumes nothing.
 use Prim.Native.Nat.{ℕ, suc}
 use mathlib.Core.Path.{_≡_}
-use mathlib.Core.List.{List, map}
+use mathlib.Core.List.{List, [], map}
 use mathlib.Core.Option.{some}
 use lib.ListN.{length}
 use Rattle.table.specs.declared.Entry.{Entry}
@@ -13,30 +13,20 @@ use Rattle.protocol.specs.Claim as claim
 use Rattle.protocol.specs.Claim.{Unspent, HasLatest}
 use Rattle.protocol.specs.History as history
 use Rattle.protocol.specs.History.{faithfulLog, FaithfulFile}
+use Rattle.protocol.specs.Said.{refused}
 use Rattle.protocol.specs.declared.Vault.{Vault}
+use Rattle.protocol.specs.declared.Phase.the-variants as F
+use Rattle.protocol.specs.declared.Store.the-variants as S
+use Rattle.boundary.specs.Flat.{phaseNumber}
+use Rattle.boundary.specs.Replies.{named, saidOf}
 use Rattle.boundary.specs.Run.{Event, call, paviluko-recover, returned, loaded, World, settled, newWorld, eventOf, next, run, flatWorld, Honest, Premises}
 use Rattle.boundary.specs.declared.FlatState.{FlatState}
 use Rattle.boundary.specs.declared.Said.{Said}
 
--- PAVILUKO_COLD
-abbrev pub cold : ℕ
-cold = 1
-
--- a call that is taken and names no store, and one that names N: PAVILUKO_STORE_NONE and PAVILUKO_STORE_N
-abbrev pub saysNothing : Said
-saysNothing = record { value = 0; len = 0; number = 0; store = 0; lane = 0 }
-
-abbrev pub saysN : ℕ → Said
-saysN n = record { value = n; len = 0; number = 0; store = 6; lane = 0 }
-
--- PAVILUKO_REFUSED_SPENT
-abbrev pub saysSpent : Said
-saysSpent = record { value = 0; len = 0; number = 8; store = 0; lane = 0 }
-
 -- accepted exactly when no counter is spent: number 0 with the store of N + 1, or number 8
 pub record TakenUnlessSpent (x : Vault) (said : Said) : Type 0 where
-  pub takes : Unspent x → said ≡ saysN (suc (x .n))
-  pub spent : (Unspent x → ⊥) → said ≡ saysSpent
+  pub takes : Unspent x → said ≡ named (S.N (suc (x .n))) 0
+  pub spent : (Unspent x → ⊥) → said ≡ saidOf (refused 8 [])
 
 module _ (key : List ℕ) where
   -- what a list of events over C comes to, from a new vault and no state
@@ -69,10 +59,10 @@ module _ (key : List ℕ) where
     -- the latest of all writes to a meter in the book is one entry
     pub latest-is-one : (m : ℕ) (a b : Entry) → LatestOf (settled w .book) m a → LatestOf (settled w .book) m b → a ≡ b
     -- a cold collector takes a card that kept faith, exactly when no counter is spent
-    pub faithful-card-is-taken : (s : FlatState) → w .state ≡ some s → s .phase ≡ cold → (file out : List ℕ) → FaithfulFile (settled w .vault .s) (settled w .card) file
+    pub faithful-card-is-taken : (s : FlatState) → w .state ≡ some s → s .phase ≡ phaseNumber F.Cold → (file out : List ℕ) → FaithfulFile (settled w .vault .s) (settled w .card) file
         → TakenUnlessSpent (settled w .vault) (returned s (paviluko-recover file (faithfulLog (settled w .card)) out) .reply .said)
     -- paviluko_load takes the vault's numbers after any list, names no store, and hands back a cold collector
-    pub load-is-taken : (loaded (settled w .vault) key .reply .said ≡ saysNothing) × (loaded (settled w .vault) key .reply .state .phase ≡ cold)
+    pub load-is-taken : (loaded (settled w .vault) key .reply .said ≡ named S.Nothing 0) × (loaded (settled w .vault) key .reply .state .phase ≡ phaseNumber F.Cold)
     -- the card that kept faith has a file of version S where S > 0
     pub card-has-a-file : (file : List ℕ) × FaithfulFile (settled w .vault .s) (settled w .card) file
     -- and what it hands over keeps to the premises

@@ -97,32 +97,32 @@ abbrev pub written : Returned → List ℕ
 written r = take (r .reply .said .len) (r .out)
 
 -- number 0: the store named is pending, and the state is the reply's
-unfoldable pub goesOn : Lasting → Option Opened → Returned → World
-goesOn d adds r = record {
+unfoldable pub afterTaken : Lasting → Option Opened → Returned → World
+afterTaken d adds r = record {
   lasting = withSealings d (sealedBy (thaw (r .reply .state)) (storeOf (r .reply .said)) (written r));
   pending = record { store = storeOf (r .reply .said); bytes = written r; adds = adds };
   state = some (r .reply .state);
 }
 
--- another number: no store is named, and the host goes on with the state given
-unfoldable pub goesBack : Lasting → Option FlatState → World
-goesBack d s = record { lasting = d; pending = nothingPending; state = s }
+-- nothing is pending
+unfoldable pub resting : Lasting → Option FlatState → World
+resting d s = record { lasting = d; pending = nothingPending; state = s }
 
-unfoldable pub behind : Lasting → Option Opened → Returned → Option FlatState → World
-behind d adds r s = cond (eqb (r .reply .said .number) 0) (goesOn d adds r) (goesBack d s)
+unfoldable pub afterReply : Lasting → Option Opened → Returned → Option FlatState → World
+afterReply d adds r s = cond (eqb (r .reply .said .number) 0) (afterTaken d adds r) (resting d s)
 
 -- a call with the state last returned; without a state there is none to hand over, and nothing is called
-unfoldable pub behindCall : List ℕ → Lasting → Call → Option FlatState → World
-behindCall key d k none = goesBack d none
-behindCall key d k (some s) = behind d (addsOf key (asked k)) (returned s k) (some (returned s k .reply .state))
+unfoldable pub afterCall : List ℕ → Lasting → Call → Option FlatState → World
+afterCall key d k none = resting d none
+afterCall key d k (some s) = afterReply d (addsOf key (asked k)) (returned s k) (some (returned s k .reply .state))
 
 -- A call that is turned down hands back a state, and the host goes on with that one. A load that is turned down hands back none to go on with:
--- the host keeps the one that it had.
+-- the host keeps the one that it had. A cut leaves none.
 unfoldable pub next : List ℕ → World → Event → World
-next key w (paviluko-load x k) = behind (settled w) none (loaded x k) (w .state)
-next key w (call k) = behindCall key (settled w) k (w .state)
-next key w (cut true) = goesBack (settled w) none
-next key w (cut false) = goesBack (w .lasting) none
+next key w (paviluko-load x k) = afterReply (settled w) none (loaded x k) (w .state)
+next key w (call k) = afterCall key (settled w) k (w .state)
+next key w (cut true) = resting (settled w) none
+next key w (cut false) = resting (w .lasting) none
 
 unfoldable pub run : List ℕ → World → List Event → World
 run key w [] = w

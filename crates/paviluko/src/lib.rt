@@ -7,6 +7,7 @@
 ghost use mathlib.Core.Path.{_≡_};
 ghost use lib.ListN.{length, getD};
 ghost use Rattle.octets.specs.Lists.{putOver};
+ghost use Rattle.transaction.specs.Edition.{present};
 ghost use Rattle.table.specs.Table.{noEntry};
 ghost use Rattle.protocol.specs.Load.{load};
 ghost use Rattle.protocol.specs.Accept.{accept, seal};
@@ -15,7 +16,6 @@ ghost use Rattle.protocol.specs.Point.{point};
 ghost use Rattle.protocol.specs.Checkpoint.{checkpoint};
 ghost use Rattle.protocol.specs.Truncate.{truncate};
 ghost use Rattle.protocol.specs.Recover.{recover};
-ghost use Rattle.boundary.specs.Edition.{edition};
 ghost use Rattle.boundary.specs.Flat.{thaw};
 ghost use Rattle.boundary.specs.Replies.{replyOf, replyTo, putTo};
 use boundary::DueNumbers;
@@ -154,7 +154,7 @@ pub extern "C" fn paviluko_recover(
 // The edition: how many of the requests of document 02 this interface has.
 #[no_mangle]
 pub extern "C" fn paviluko_edition() -> u64
-    ensures { λ r. ⌜ r ≡ edition ⌝ }
+    ensures { λ r. ⌜ r ≡ present .requests ⌝ }
 {
     boundary::EDITION
 }

@@ -78,6 +78,9 @@ vaultTo d x = record { vault = x; book = d .book; sealed = d .sealed; files = d 
 abbrev pub spotsTo : Durable → List Spot → Durable
 spotsTo d c = record { vault = d .vault; book = d .book; sealed = d .sealed; files = d .files; spots = c; cards = d .cards }
 
+abbrev pub cardsTo : Durable → List OpenedFile → Durable
+cardsTo d cs = record { vault = d .vault; book = d .book; sealed = d .sealed; files = d .files; spots = d .spots; cards = cs }
+
 -- ---- what a call puts out, and what its store does
 
 pub data Out : Type 0 where
@@ -99,7 +102,7 @@ spotted p (outFile f) d = d
 abbrev pub filed : Out → Durable → Durable
 filed quiet d = d
 filed (outRecord r) d = d
-filed (outFile f) d = record { vault = d .vault; book = d .book; sealed = d .sealed; files = d .files; spots = d .spots; cards = d .cards ++ (f ∷ []) }
+filed (outFile f) d = cardsTo d (d .cards ++ (f ∷ []))
 
 -- one store carried out
 abbrev pub carried : Store → Out → Durable → Durable

@@ -253,9 +253,9 @@ pub demand-3 : Demand3
 demand-3 key long es p = claims key (after key es) (listed-invariant key es p) long
 
 others : (key : List ℕ) → OtherFilesMayGo key
-others key long es p n left among file f more q =
+others key long es p left among file f n more q =
     let w = after key es in
-    let i = forgotten-invariant key w (listed-invariant key es p) n left among file f in
+    let i = forgotten-invariant key w (listed-invariant key es p) left among file f n in
     claims key (run key (forgotten left w) more) (run-invariant key more (forgotten left w) i q) long
 
 pub beside : (key : List ℕ) → Beside key

@@ -1,6 +1,6 @@
--- What is said beside demand 3, after any list that keeps to the premises: that the vault's numbers only rise, a faithful log is short and older
--- files may go, the
--- stores of the longer operations, and 01's sentences on a collector in service. The proofs are in proofs/ServiceLaws.antt and proofs/Theorem.antt.
+-- What is said beside demand 3, after any list that keeps to the premises: that a faithful log is short and the vault's numbers only rise, which
+-- files may go, the stores of the longer operations, and 01's sentences on a collector in service. The proofs are in proofs/ServiceLaws.antt,
+-- RiseLaws, ForgetLaws and Theorem.
 -- Assumes nothing.
 use Prim.Native.Nat.{ℕ, suc, _+_, _*_, _≤_, _<_}
 use mathlib.Core.Path.{_≡_}
@@ -102,9 +102,10 @@ sDue (D.Recover (G.Number M.E)) = false
 sDue (D.Recover (G.Number (M.V lane))) = false
 sDue (D.Recover G.Empty) = false
 
-unfoldable pub NoSDue : Option State → Type 0
-NoSDue none = Unit {0}
-NoSDue (some c) = sDue (c .due) ≡ false
+-- where the store of S is due, a file of the version that it is about to name is left
+unfoldable pub NextLeft : Option State → ℕ → List (List ℕ) → Type 0
+NextLeft none s left = Unit {0}
+NextLeft (some c) s left = sDue (c .due) ≡ true → (file : List ℕ) × List·Memᴰ file left × (versionOf file ≡ suc s)
 
 -- the pending store is done, and of the card's files these are left
 unfoldable pub forgotten : List (List ℕ) → World → World
@@ -136,11 +137,12 @@ module _ (key : List ℕ) where
       → (left : List (List ℕ)) → Lacks (after key es .lasting .vault .s) (settled (run key (after key es) more) .card .files) left
       → (file : List ℕ) → SameFaith (settled (run key (after key es) more) .vault .s) (settled (run key (after key es) more) .card) left file
 
-  -- And files of other versions than S, those that a cut before S has left among them, may go whenever the store of S is not the one that is due:
-  -- the whole claim holds of the card that is left, then and whatever comes after.
+  -- And files of other versions than S, those that a cut before S has left among them, may go too, but for the one that S is about to name: the
+  -- whole claim holds of the card that is left, then and whatever comes after.
   abbrev pub OtherFilesMayGo : Type 0
-  OtherFilesMayGo = length key ≡ keyLen → (es : List Event) → Listed key es → NoSDue (after key es .state)
+  OtherFilesMayGo = length key ≡ keyLen → (es : List Event) → Listed key es
       → (left : List (List ℕ)) → Among left (settled (after key es) .card .files) → (file : List ℕ) → FaithfulFile (settled (after key es) .vault .s) (cardLeft left (settled (after key es) .card)) file
+      → NextLeft (after key es .state) (settled (after key es) .vault .s) left
       → (more : List Event) → Premises key (forgotten left (after key es)) more → Claim key (run key (forgotten left (after key es)) more)
 
   -- ---- recovery, from any state

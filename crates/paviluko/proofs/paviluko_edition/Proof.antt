@@ -1,11 +1,9 @@
 -- `paviluko_edition` meets its contract. Assumes nothing.
 use mathlib.Core.Path.{refl}
-use Rattle.boundary.specs.Edition.{edition}
 use Rattle.paviluko.proofs.paviluko_edition.Statement.{statement}
 use Rattle.paviluko.proofs.paviluko_edition.Tie as tie
 
 returns : tie.Need-returns
-unfolding edition
 returns c = refl
 
 pub paviluko-edition-spec : {M : Type 1} → statement M
