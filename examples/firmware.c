@@ -638,34 +638,50 @@ static void every_cut(void)
            second);
 }
 
-int main(int argc, char **argv)
+/* What the command line can have happen, each with a number. */
+static const struct {
+    const char *name;
+    unsigned long *at;
+} options[] = {
+    {"--cut-before", &trial.cut_before},
+    {"--cut-after", &trial.cut_after},
+    {"--misread", &trial.misread},
+    {"--spoil", &trial.spoil},
+};
+
+/* Whether the command line is one of those above. */
+static int command_line(int argc, char **argv)
 {
     unsigned long n = argc == 3 ? strtoul(argv[2], NULL, 10) : 0;
+    size_t i;
+    if (argc == 1 || (argc == 2 && strcmp(argv[1], "--every") == 0)) {
+        return 1;
+    }
+    for (i = 0; i < sizeof options / sizeof options[0]; i++) {
+        if (n != 0 && strcmp(argv[1], options[i].name) == 0) {
+            *options[i].at = n;
+            return 1;
+        }
+    }
+    return 0;
+}
+
+int main(int argc, char **argv)
+{
     if (paviluko_edition() != PAVILUKO_EDITION) {
         printf("firmware: header and library are of different editions\n");
         return 1;
     }
     make_day();
     new_box();
-    if (argc == 2 && strcmp(argv[1], "--every") == 0) {
-        every_cut();
-    } else if (argc == 1) {
-        live_through();
-    } else if (n != 0 && strcmp(argv[1], "--cut-before") == 0) {
-        trial.cut_before = n;
-        live_through();
-    } else if (n != 0 && strcmp(argv[1], "--cut-after") == 0) {
-        trial.cut_after = n;
-        live_through();
-    } else if (n != 0 && strcmp(argv[1], "--misread") == 0) {
-        trial.misread = n;
-        live_through();
-    } else if (n != 0 && strcmp(argv[1], "--spoil") == 0) {
-        trial.spoil = n;
-        live_through();
-    } else {
+    if (!command_line(argc, argv)) {
         fprintf(stderr, "usage: firmware [--cut-before N | --cut-after N | --misread N | --spoil N | --every]\n");
         return 2;
+    }
+    if (argc == 2) {
+        every_cut();
+    } else {
+        live_through();
     }
     /* The state has the key, and so may the stack. */
     paviluko_clear(&ram.state);

@@ -6,9 +6,8 @@
  * Argument: how many rounds. */
 #include <stdio.h>
 #include <stdlib.h>
-#include <string.h>
 
-#include "paviluko.h"
+#include "same.h"
 
 static uint64_t calls, refused;
 
@@ -71,37 +70,6 @@ static size_t some_len(void)
 static int same_vault(const paviluko_vault *a, const paviluko_vault *b)
 {
     return !memcmp(a, b, sizeof *a);
-}
-
-/* Field by field: what stands between the fields is nobody's. */
-static int same_state(const paviluko_state *a, const paviluko_state *b)
-{
-    if (!same_vault(&a->vault, &b->vault) || a->due.position != b->due.position || a->due.kind != b->due.kind ||
-        a->due.lane != b->due.lane || a->due.second != b->due.second) {
-        return 0;
-    }
-    for (int i = 0; i < PAVILUKO_METERS; i++) {
-        const paviluko_entry *x = &a->table.entries[i], *y = &b->table.entries[i];
-        if (x->stamp != y->stamp || x->number != y->number || x->reading != y->reading || x->code != y->code ||
-            x->lane != y->lane || x->present != y->present) {
-            return 0;
-        }
-    }
-    if (memcmp(a->journal.positions, b->journal.positions, sizeof a->journal.positions) ||
-        memcmp(a->journal.lanes, b->journal.lanes, sizeof a->journal.lanes) || a->journal.count != b->journal.count ||
-        a->journal.used != b->journal.used || a->journal.last != b->journal.last) {
-        return 0;
-    }
-    for (int i = 0; i < PAVILUKO_POINTS; i++) {
-        const paviluko_point_item *x = &a->points.items[i], *y = &b->points.items[i];
-        if (x->position != y->position || memcmp(x->counts, y->counts, sizeof x->counts) || x->covered != y->covered) {
-            return 0;
-        }
-    }
-    return a->points.count == b->points.count && a->points.any == b->points.any && a->points.newest == b->points.newest &&
-           !memcmp(a->held.text, b->held.text, sizeof a->held.text) && a->held.len == b->held.len &&
-           a->held.lane == b->held.lane && a->held.position == b->held.position && !memcmp(a->key, b->key, sizeof a->key) &&
-           a->phase == b->phase;
 }
 
 /* Random bytes, but for the flags. */

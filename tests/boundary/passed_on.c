@@ -2,22 +2,10 @@
  * linked: each notes what it is handed. A NULL buffer arrives as an address and length 0, whatever length stood beside it;
  * everything else arrives as it was given; the next state is written back, but for a load that is turned down; and what was
  * said is returned. */
-#include <stdio.h>
-#include <stdlib.h>
 #include <string.h>
 
+#include "check.h"
 #include "paviluko.h"
-
-static long checks;
-
-#define CHECK(test)                                                   \
-    do {                                                              \
-        checks++;                                                     \
-        if (!(test)) {                                                \
-            printf("passed on: line %d: %s is false\n", __LINE__, #test); \
-            exit(1);                                                  \
-        }                                                             \
-    } while (0)
 
 /* ---- the library's place ---- */
 
