@@ -26,7 +26,7 @@ shown() { # NAME
 }
 
 # All packages at once: two tests cannot install theirs at the same time.
-sh tests/cipher/packages.sh gcc g++ libc6-dev libssl-dev make mandoc pkgconf python3 python3-cryptography valgrind
+sh tests/cipher/packages.sh gcc g++ libc6-dev librust-lexopt-dev librust-libc-dev libssl-dev make mandoc pkgconf python3 python3-cryptography valgrind
 
 rt fmt --check
 

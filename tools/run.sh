@@ -11,6 +11,6 @@ command -v cc >/dev/null 2>&1 || sh tests/cipher/packages.sh gcc libc6-dev
 [ -n "${PAVILUKO_LIB:-}" ] || sh tools/lib.sh --brief
 
 echo 'building the program'
-cargo build --release --offline --locked --quiet -p paviluko_host
+sh tools/cargo.sh build --release --quiet -p paviluko_host
 echo
 exec target-rust/release/paviluko demo

@@ -4,7 +4,9 @@
 //!
 //! - `log`, a line of text that names the generation in force, G. No such file stands for generation 0.
 //! - `records.G/`, the log: a file for each record, named by its position in 20 digits.
-//! - `checkpoints/`, a file for each checkpoint, named by its version and seal number. They are kept.
+//! - `checkpoints/`, a file for each checkpoint, named by its version and seal number. Those that are no longer asked for
+//!   are deleted: of a version below S once S is stored, and of the same version once a later one is written.
+//! - `reserve`, room that is kept for a start: it is given up where the card is full, and made again when there is room.
 //!
 //! A record or a checkpoint is written by `files::replace`. To delete many records at once, a folder of the next
 //! generation is filled with what stays (nothing, where the log is emptied), and then `log` is replaced: that one rename
@@ -12,12 +14,14 @@
 //! the old folder is swept away by the next deletion.
 //!
 //! Anybody may change a card, so nothing here is believed: whatever is found is handed to the library, which decides.
-//! Names that are no position are passed over, and a `log` that cannot be read stands for an empty log.
+//! Names that are no position are passed over, and a `log` that cannot be read stands for an empty log. All of it goes
+//! through `Dir`, so that nothing on a card leads out of it.
 
-use std::fs;
+use std::ffi::{OsStr, OsString};
 use std::io;
-use std::path::{Path, PathBuf};
+use std::path::Path;
 
+use crate::dir::{Dir, Listed};
 use crate::files::{self, Disk, Fault};
 use crate::limits::{FILE_LEN, LOG_LEN, RECORD_LEN};
 
@@ -27,14 +31,25 @@ const LOG: &str = "log";
 const CHECKPOINTS: &str = "checkpoints";
 /// What a folder of records is called, before its generation.
 const RECORDS: &str = "records.";
+/// The file that keeps room.
+const RESERVE: &str = "reserve";
+/// Room for a checkpoint, two folders and `log` on a file system that gives each 16 KB.
+const RESERVE_LEN: usize = 65_536;
 
 /// Bytes of a checkpoint's head.
 const HEAD_LEN: usize = 20;
+/// So many names are tried for a new generation.
+const MOST_TRIES: usize = 1000;
+/// So many names are removed in one sweep; what is left then is left to the next.
+const MOST_REMOVED: usize = 16_384;
+
+const FOLDER_MODE: u32 = 0o755;
+const FILE_MODE: u32 = 0o644;
 
 /// A card in a folder.
 #[derive(Debug)]
 pub struct Card {
-    folder: PathBuf,
+    dir: Dir,
     disk: Disk,
 }
 
@@ -57,45 +72,53 @@ pub struct Held {
 }
 
 impl Card {
-    /// The card in a folder, which is there.
+    /// The card in a folder, which is there and is no link.
     pub fn open(folder: &Path, disk: Disk) -> Result<Card, Fault> {
-        if fs::metadata(folder).map_err(Fault::unusable(folder))?.is_dir() {
-            Ok(Card { folder: folder.to_path_buf(), disk })
-        } else {
-            Err(Fault::damaged(folder, "is not a folder"))
-        }
+        Ok(Card { dir: Dir::open_itself(folder)?, disk })
     }
 
     /// An empty card in a folder that is not there yet.
     pub fn create(folder: &Path, disk: Disk) -> Result<Card, Fault> {
-        fs::create_dir(folder).map_err(Fault::unusable(folder))?;
-        Ok(Card { folder: folder.to_path_buf(), disk })
+        let (above, name) = files::place(folder)?;
+        above.make(name, FOLDER_MODE).map_err(Fault::unusable(folder))?;
+        above.settle(disk)?;
+        Card::open(folder, disk)
     }
 
     /// Its folder.
     pub fn folder(&self) -> &Path {
-        &self.folder
+        self.dir.path()
+    }
+
+    /// Brings to the disk what is found on it, whoever wrote it and never waited for that.
+    pub fn settle(&self) -> Result<(), Fault> {
+        self.dir.settle_all(self.disk)
     }
 
     /// Store: writes a record at a position.
     pub fn write_record(&self, position: u64, bytes: &[u8]) -> Result<(), Fault> {
-        let records = self.records(self.generation()?);
-        self.ensure(&records)?;
-        files::replace(&records, &name_of(position), bytes, 0o644, self.disk)
+        let records = self.ensure(&records_name(self.generation()?))?;
+        files::replace(&records, &name_of(position), bytes, FILE_MODE, self.disk)
     }
 
     /// The record at a position, as the card has it.
     pub fn read_record(&self, position: u64) -> Result<Vec<u8>, Fault> {
+        let folder = records_name(self.generation()?);
         // A byte more than the longest record: what is longer is read as too long.
-        files::read_at_most(&self.records(self.generation()?).join(name_of(position)), RECORD_LEN + 1)
+        let bytes = match self.dir.folder(&folder)? {
+            Some(records) => records.read(name_of(position), RECORD_LEN + 1)?,
+            None => None,
+        };
+        bytes.ok_or_else(|| Fault::missing(&self.folder().join(folder).join(name_of(position))))
     }
 
-    /// Store: writes a checkpoint, beside the older ones.
+    /// Store: writes a checkpoint. The others of its version are not asked for any more.
     pub fn write_checkpoint(&self, bytes: &[u8]) -> Result<(), Fault> {
-        let folder = self.folder.join(CHECKPOINTS);
-        self.ensure(&folder)?;
+        let folder = self.ensure(CHECKPOINTS)?;
         let (version, seal) = head(bytes).unwrap_or_default();
-        files::replace(&folder, &format!("{}-{}", name_of(version), name_of(seal)), bytes, 0o644, self.disk)
+        files::replace(&folder, &format!("{}-{}", name_of(version), name_of(seal)), bytes, FILE_MODE, self.disk)?;
+        remove_where(&folder, |_, its| its.is_some_and(|(v, n)| v == version && n < seal));
+        Ok(())
     }
 
     /// Store: deletes the records below a position.
@@ -111,14 +134,37 @@ impl Card {
         self.switch(generation, Vec::new())
     }
 
+    /// Removes what no start asks for, as far as that can be done: checkpoints of a version below S, which is stored, what
+    /// a cut left of a store, and records that are not of the generation in force.
+    pub fn sweep(&self, s: u64) {
+        if let Ok(Some(folder)) = self.dir.folder(CHECKPOINTS) {
+            remove_where(&folder, |name, its| {
+                files::is_unfinished(name) || its.is_some_and(|(version, _)| version < s)
+            });
+        }
+        if let Ok(generation) = self.generation() {
+            self.sweep_generations(generation);
+        }
+    }
+
+    /// Keeps room for a start, where there is none kept yet; false where there is no room.
+    pub fn keep_reserve(&self) -> bool {
+        self.dir.has(RESERVE) || files::replace(&self.dir, RESERVE, &[0; RESERVE_LEN], FILE_MODE, self.disk).is_ok()
+    }
+
+    /// Gives up the room that was kept; false where none was.
+    pub fn give_up_reserve(&self) -> bool {
+        self.dir.remove(RESERVE).is_ok()
+    }
+
     /// What the card hands to Recover as its log: its records, or as many as are too long for any log.
     pub fn log(&self) -> Result<Log, Fault> {
         let mut log = Log::default();
         let Some(generation) = readable(self.generation())? else { return Ok(log) };
-        let records = self.records(generation);
+        let Some(records) = readable(self.folder_of(generation))?.flatten() else { return Ok(log) };
         for position in self.positions(generation)? {
             let room = (LOG_LEN + 1).saturating_sub(log.bytes.len());
-            log.bytes.extend(files::read_at_most(&records.join(name_of(position)), room)?);
+            log.bytes.extend(records.read(name_of(position), room)?.unwrap_or_default());
             log.records += 1;
             if log.bytes.len() > LOG_LEN {
                 break;
@@ -133,24 +179,20 @@ impl Card {
         if version == 0 {
             return Ok(Vec::new());
         }
-        let folder = self.folder.join(CHECKPOINTS);
-        let mut best: Option<((bool, u64, u64), PathBuf)> = None;
-        for name in names(&folder)? {
-            let path = folder.join(&name);
-            if name.starts_with('.') || !path.is_file() {
-                continue;
-            }
-            let (its, seal) = head(&files::read_at_most(&path, HEAD_LEN)?).unwrap_or_default();
+        let Some(folder) = readable(self.dir.folder(CHECKPOINTS))?.flatten() else { return Ok(Vec::new()) };
+        let mut best: Option<((bool, u64, u64), OsString)> = None;
+        let listed = folder.names(|name| {
+            let Some(found) = head_of(&folder, name).filter(|_| !is_hidden(name)) else { return };
+            let (its, seal) = found.unwrap_or_default();
             let rank = (its == version, its, seal);
             if best.as_ref().is_none_or(|(other, _)| rank > *other) {
-                best = Some((rank, path));
+                best = Some((rank, name.to_os_string()));
             }
-        }
-        match best {
-            // A byte more than a checkpoint has: what is longer is read as too long.
-            Some((_, path)) => files::read_at_most(&path, FILE_LEN + 1),
-            None => Ok(Vec::new()),
-        }
+        })?;
+        whole(&folder, listed)?;
+        let Some((_, name)) = best else { return Ok(Vec::new()) };
+        // A byte more than a checkpoint has: what is longer is read as too long.
+        Ok(folder.read(&name, FILE_LEN + 1)?.unwrap_or_default())
     }
 
     /// How many records and checkpoints it holds.
@@ -159,97 +201,170 @@ impl Card {
             Some(generation) => self.positions(generation)?.len(),
             None => 0,
         };
-        let files = names(&self.folder.join(CHECKPOINTS))?;
-        Ok(Held { records, checkpoints: files.iter().filter(|name| !name.starts_with('.')).count() })
+        let mut checkpoints = 0;
+        if let Some(folder) = readable(self.dir.folder(CHECKPOINTS))?.flatten() {
+            let listed = folder.names(|name| checkpoints += usize::from(!is_hidden(name)))?;
+            whole(&folder, listed)?;
+        }
+        Ok(Held { records, checkpoints })
     }
 
-    /// Copies the card to a folder that is not there yet. The copy has its name once it is complete.
-    pub fn copy_to(&self, folder: &Path) -> Result<(), Fault> {
-        if fs::symlink_metadata(folder).is_ok() {
+    /// Copies to a folder that is not there yet what a start with this S would be handed. The copy has its name once it is
+    /// complete, and is on the disk.
+    pub fn copy_to(&self, folder: &Path, s: u64) -> Result<(), Fault> {
+        let (above, name) = files::place(folder)?;
+        if above.has(name) {
             return Err(Fault::damaged(folder, "there is something of that name already"));
         }
         // A name of its own until it is complete; what a cut leaves of it is in nobody's way.
-        let name = folder.file_name().unwrap_or_default().to_string_lossy();
-        let unfinished = folder.with_file_name(format!(".{name}.{}.new", std::process::id()));
-        copy_folder(&self.folder, &unfinished, 0).map_err(Fault::unusable(folder))?;
-        fs::rename(&unfinished, folder).map_err(Fault::unusable(folder))
+        let unfinished = format!(".{}.{}.new", name.to_string_lossy(), std::process::id());
+        let copy = Card::create(&folder.with_file_name(&unfinished), self.disk)?;
+        self.copy_files(&copy, s)?;
+        above.rename(&unfinished, name).map_err(Fault::unusable(folder))?;
+        above.settle(self.disk)
+    }
+
+    /// Copies the records of the generation in force, `log`, and the checkpoint.
+    fn copy_files(&self, copy: &Card, s: u64) -> Result<(), Fault> {
+        let generation = readable(self.generation())?.unwrap_or_default();
+        if let Some(records) = readable(self.folder_of(generation))?.flatten() {
+            let to = copy.ensure(&records_name(generation))?;
+            let mut room = LOG_LEN + 1;
+            for position in self.positions(generation)? {
+                let bytes = records.read(name_of(position), room)?.unwrap_or_default();
+                files::replace(&to, &name_of(position), &bytes, FILE_MODE, self.disk)?;
+                room -= bytes.len();
+                if room == 0 {
+                    break;
+                }
+            }
+        }
+        let checkpoint = self.checkpoint(s)?;
+        if !checkpoint.is_empty() {
+            copy.write_checkpoint(&checkpoint)?;
+        }
+        if let Ok(Some(line)) = self.dir.read(LOG, 64) {
+            files::replace(&copy.dir, LOG, &line, FILE_MODE, self.disk)?;
+        }
+        copy.dir.settle(self.disk)
     }
 
     /// The generation in force.
     fn generation(&self) -> Result<u64, Fault> {
-        let path = self.folder.join(LOG);
-        if !path.try_exists().map_err(Fault::unusable(&path))? {
-            return Ok(0);
-        }
-        let bytes = files::read_at_most(&path, 64)?;
+        let Some(bytes) = self.dir.read(LOG, 64)? else { return Ok(0) };
         let text = String::from_utf8_lossy(&bytes);
         let number = text.strip_prefix("generation ").and_then(|rest| rest.strip_suffix('\n')?.parse().ok());
-        number.ok_or_else(|| Fault::damaged(&path, "damaged, it names no generation"))
+        number.ok_or_else(|| Fault::damaged(&self.folder().join(LOG), "damaged, it names no generation"))
     }
 
-    /// The folder of a generation's records.
-    fn records(&self, generation: u64) -> PathBuf {
-        self.folder.join(format!("{RECORDS}{generation}"))
+    /// The folder of a generation's records, if there is one.
+    fn folder_of(&self, generation: u64) -> Result<Option<Dir>, Fault> {
+        self.dir.folder(&records_name(generation))
     }
 
     /// The positions of a generation's records, in order.
     fn positions(&self, generation: u64) -> Result<Vec<u64>, Fault> {
-        let names = names(&self.records(generation))?;
-        let mut positions: Vec<u64> = names.iter().filter_map(|name| position_of(name)).collect();
+        let mut positions = Vec::new();
+        if let Some(records) = readable(self.folder_of(generation))?.flatten() {
+            let listed = records.names(|name| positions.extend(name.to_str().and_then(position_of)))?;
+            whole(&records, listed)?;
+        }
         positions.sort_unstable();
         Ok(positions)
     }
 
     /// Makes a new generation with the kept records of the one in force, puts it in force, and sweeps the others.
     fn switch(&self, from: u64, kept: Vec<u64>) -> Result<(), Fault> {
-        let generations = self.generations()?;
-        let highest = generations.iter().copied().max().unwrap_or(0).max(from);
-        let next = highest
-            .checked_add(1)
-            .ok_or_else(|| Fault::damaged(&self.folder.join(LOG), "damaged, it has no generation left"))?;
-        let (old, new) = (self.records(from), self.records(next));
-        self.ensure(&new)?;
-        for position in kept {
+        let (next, new) = self.next_generation(from)?;
+        let old = if kept.is_empty() { None } else { self.folder_of(from)? };
+        for (position, old) in kept.into_iter().zip(old.iter().cycle()) {
             let name = name_of(position);
             // A second name for the same file; a copy where the card's file system has no second names.
-            files::step().map_err(Fault::unusable(&new))?;
-            if fs::hard_link(old.join(&name), new.join(&name)).is_err() {
-                let bytes = files::read_at_most(&old.join(&name), LOG_LEN)?;
-                files::replace(&new, &name, &bytes, 0o644, self.disk)?;
+            if old.link(&name, &new).is_err() {
+                let bytes = old.read(&name, LOG_LEN)?.unwrap_or_default();
+                files::replace(&new, &name, &bytes, FILE_MODE, self.disk)?;
             }
         }
-        files::settle(&new, self.disk)?;
-        files::replace(&self.folder, LOG, format!("generation {next}\n").as_bytes(), 0o644, self.disk)?;
+        new.settle(self.disk)?;
+        files::replace(&self.dir, LOG, format!("generation {next}\n").as_bytes(), FILE_MODE, self.disk)?;
         // The store is done. What cannot be swept now is read by nobody, and is tried again the next time.
-        for other in generations.into_iter().chain([from]) {
-            let _ = files::step().and_then(|()| fs::remove_dir_all(self.records(other)));
-        }
+        self.sweep_generations(next);
         Ok(())
     }
 
-    /// The generations that have a folder.
-    fn generations(&self) -> Result<Vec<u64>, Fault> {
-        let names = names(&self.folder)?;
-        Ok(names.iter().filter_map(|name| name.strip_prefix(RECORDS)?.parse().ok()).collect())
+    /// A new folder of records behind a generation: the first name that is not taken. Whoever took very many is no box.
+    fn next_generation(&self, from: u64) -> Result<(u64, Dir), Fault> {
+        let mut next = from;
+        for _ in 0..MOST_TRIES {
+            next = next.wrapping_add(1);
+            let name = records_name(next);
+            match self.dir.make(&name, FOLDER_MODE) {
+                Ok(()) => {
+                    self.dir.settle(self.disk)?;
+                    return Ok((next, self.ensure(&name)?));
+                }
+                Err(error) if error.kind() == io::ErrorKind::AlreadyExists => {}
+                Err(error) => return Err(Fault::unusable(&self.folder().join(name))(error)),
+            }
+        }
+        Err(Fault::damaged(self.folder(), "damaged, no name is left on it for a log"))
+    }
+
+    /// Removes all records that are not of a generation, and what a cut left of a store.
+    fn sweep_generations(&self, generation: u64) {
+        let mut left = MOST_REMOVED;
+        let mut found = Vec::new();
+        let _ = self.dir.names(|name| {
+            let folder = name.to_str().is_some_and(|name| name.starts_with(RECORDS));
+            if found.len() < MOST_REMOVED && (folder || files::is_unfinished(name)) {
+                found.push(name.to_os_string());
+            }
+        });
+        let in_force = records_name(generation);
+        for name in found {
+            let folder = self.dir.folder(&name).ok().flatten();
+            let all = name != OsStr::new(&in_force);
+            if let Some(folder) = folder {
+                left -= remove_some(&folder, left, |file| all || files::is_unfinished(file));
+            }
+            if all {
+                let _ = self.dir.remove(&name);
+            }
+        }
     }
 
     /// A folder that is there from now on.
-    fn ensure(&self, folder: &Path) -> Result<(), Fault> {
-        if folder.is_dir() {
-            return Ok(());
+    fn ensure(&self, name: &str) -> Result<Dir, Fault> {
+        if let Some(folder) = self.dir.folder(name)? {
+            return Ok(folder);
         }
-        files::step().and_then(|()| fs::create_dir(folder)).map_err(Fault::unusable(folder))?;
-        files::settle(&self.folder, self.disk)
+        let path = self.folder().join(name);
+        self.dir.make(name, FOLDER_MODE).map_err(Fault::unusable(&path))?;
+        self.dir.settle(self.disk)?;
+        self.dir.folder(name)?.ok_or_else(|| Fault::missing(&path))
     }
 }
 
-/// A generation that can be read; a damaged one is none, and only a card that cannot be read at all is a fault.
-fn readable(generation: Result<u64, Fault>) -> Result<Option<u64>, Fault> {
-    match generation {
-        Ok(number) => Ok(Some(number)),
+/// What can be read; a damaged thing is none, and only a card that cannot be read at all is a fault.
+fn readable<T>(found: Result<T, Fault>) -> Result<Option<T>, Fault> {
+    match found {
+        Ok(found) => Ok(Some(found)),
         Err(Fault::Damaged { .. }) => Ok(None),
         Err(fault) => Err(fault),
     }
+}
+
+/// A folder with more names than are looked at is no card's.
+fn whole(folder: &Dir, listed: Listed) -> Result<(), Fault> {
+    match listed {
+        Listed::Whole => Ok(()),
+        Listed::Part => Err(Fault::damaged(folder.path(), "this is no box's card: it has too many names")),
+    }
+}
+
+/// What a generation's folder is called.
+fn records_name(generation: u64) -> String {
+    format!("{RECORDS}{generation}")
 }
 
 /// A number in 20 digits.
@@ -263,46 +378,48 @@ fn position_of(name: &str) -> Option<u64> {
     digits.then(|| name.parse().ok()).flatten()
 }
 
+/// Names that begin with a dot are no checkpoint's.
+fn is_hidden(name: &OsStr) -> bool {
+    name.as_encoded_bytes().starts_with(b".")
+}
+
 /// Version and seal number in a checkpoint's head.
 fn head(bytes: &[u8]) -> Option<(u64, u64)> {
     let number = |from: usize| Some(u64::from_le_bytes(bytes.get(from..from + 8)?.try_into().ok()?));
     Some((number(4)?, number(12)?))
 }
 
-/// The names in a folder, in order; none where it is not there.
-fn names(folder: &Path) -> Result<Vec<String>, Fault> {
-    let list = match fs::read_dir(folder) {
-        Ok(list) => list,
-        Err(error) if error.kind() == io::ErrorKind::NotFound => return Ok(Vec::new()),
-        Err(error) if error.kind() == io::ErrorKind::NotADirectory => return Ok(Vec::new()),
-        Err(error) => return Err(Fault::unusable(folder)(error)),
-    };
-    let mut names = Vec::new();
-    for entry in list {
-        names.push(entry.map_err(Fault::unusable(folder))?.file_name().to_string_lossy().into_owned());
-    }
-    names.sort_unstable();
-    Ok(names)
+/// Version and seal number of a checkpoint's file, if it has a head; nothing at all for what is no file.
+fn head_of(folder: &Dir, name: &OsStr) -> Option<Option<(u64, u64)>> {
+    let mut bytes = [0; HEAD_LEN];
+    let len = folder.read_into(name, &mut bytes).ok()??;
+    Some(bytes.get(..len).and_then(head))
 }
 
-/// Copies a folder's files, and its folders as deep as a card has them.
-fn copy_folder(from: &Path, to: &Path, depth: u32) -> io::Result<()> {
-    fs::create_dir(to)?;
-    for entry in fs::read_dir(from)? {
-        let entry = entry?;
-        let kind = entry.file_type()?;
-        let target = to.join(entry.file_name());
-        if kind.is_file() {
-            fs::copy(entry.path(), target)?;
-        } else if kind.is_dir() && depth == 0 {
-            copy_folder(&entry.path(), &target, depth + 1)?;
+/// Removes those of a folder's files that are told by their name and by the version and seal number in their head.
+fn remove_where(folder: &Dir, gone: impl Fn(&OsStr, Option<(u64, u64)>) -> bool) {
+    remove_some(folder, MOST_REMOVED, |name| gone(name, head_of(folder, name).flatten()));
+}
+
+/// Removes those of a folder's names that are told, up to a number of them. How many.
+fn remove_some(folder: &Dir, most: usize, gone: impl Fn(&OsStr) -> bool) -> usize {
+    let mut found: Vec<OsString> = Vec::new();
+    let _ = folder.names(|name| {
+        if found.len() < most && gone(name) {
+            found.push(name.to_os_string());
         }
+    });
+    for name in &found {
+        let _ = folder.remove(name);
     }
-    Ok(())
+    found.len()
 }
 
 #[cfg(test)]
 mod tests {
+    use std::fs;
+    use std::path::PathBuf;
+
     use super::*;
     use crate::files::power::cut_everywhere;
     use crate::files::scratch::Scratch;
@@ -313,6 +430,20 @@ mod tests {
         bytes.extend(seal.to_le_bytes());
         bytes.resize(FILE_LEN, 0);
         bytes
+    }
+
+    /// Where the records of a generation are.
+    fn records(card: &Card, generation: u64) -> PathBuf {
+        card.folder().join(records_name(generation))
+    }
+
+    /// What a folder has in it, in order.
+    fn names(folder: &Path) -> Vec<String> {
+        let entries = fs::read_dir(folder).expect("there");
+        let mut names: Vec<String> =
+            entries.map(|entry| entry.expect("read").file_name().to_string_lossy().into_owned()).collect();
+        names.sort();
+        names
     }
 
     #[test]
@@ -340,13 +471,13 @@ mod tests {
         let card = Card::create(&scratch.path().join("card"), Disk::Quick).expect("made");
         card.write_record(1, &[1]).expect("written");
         // What a cut leaves: the next generation half filled, and the temporary file of `log`.
-        fs::create_dir(card.records(1)).expect("made");
-        fs::write(card.records(1).join(name_of(7)), [7]).expect("written");
-        fs::write(card.folder.join(".log.new"), "generation 1\n").expect("written");
+        fs::create_dir(records(&card, 1)).expect("made");
+        fs::write(records(&card, 1).join(name_of(7)), [7]).expect("written");
+        fs::write(card.folder().join(".log.new"), "generation 1\n").expect("written");
         assert_eq!(card.log().expect("read").bytes, [1]);
         card.delete_below(1).expect("deleted");
         assert_eq!(card.log().expect("read").bytes, [1]);
-        assert_eq!(card.generations().expect("read"), [2]);
+        assert_eq!(names(card.folder()), ["log", "records.2"]);
     }
 
     #[test]
@@ -360,6 +491,25 @@ mod tests {
         assert_eq!(card.checkpoint(0).expect("read"), []);
         assert_eq!(card.checkpoint(3).expect("read"), file(3, 5));
         assert_eq!(card.checkpoint(9).expect("read"), file(4, 6));
+    }
+
+    #[test]
+    fn checkpoints_that_nobody_asks_for_go() {
+        let scratch = Scratch::new();
+        let card = Card::create(&scratch.path().join("card"), Disk::Quick).expect("made");
+        let folder = card.folder().join(CHECKPOINTS);
+        for (version, seal) in [(3, 5), (4, 6), (4, 7), (5, 8)] {
+            card.write_checkpoint(&file(version, seal)).expect("written");
+        }
+        assert_eq!(names(&folder).len(), 3);
+        fs::write(folder.join(".left-over.new"), []).expect("written");
+        fs::write(folder.join("no checkpoint"), [9; HEAD_LEN - 1]).expect("written");
+        card.sweep(4);
+        assert_eq!(names(&folder).len(), 3);
+        assert_eq!(card.checkpoint(4).expect("read"), file(4, 7));
+        card.sweep(5);
+        assert_eq!(card.checkpoint(4).expect("read"), file(5, 8));
+        assert_eq!(names(&folder).len(), 2);
     }
 
     /// A card with records and a checkpoint, and what a recovery would see of it.
@@ -396,16 +546,18 @@ mod tests {
         let scratch = Scratch::new();
         let card = Card::create(&scratch.path().join("card"), Disk::Quick).expect("made");
         card.write_record(1, &[1]).expect("written");
-        fs::write(card.folder.join(LOG), "generation x\n").expect("written");
+        fs::write(card.folder().join(LOG), "generation x\n").expect("written");
         assert_eq!(card.log().expect("read").records, 0);
         assert!(card.write_record(2, &[2]).is_err());
         card.empty().expect("emptied");
         card.write_record(2, &[2]).expect("written");
         assert_eq!(card.log().expect("read").bytes, [2]);
-        fs::write(card.records(card.generation().expect("read")).join(name_of(5)), vec![5; LOG_LEN + 9])
-            .expect("written");
+        let generation = card.generation().expect("read");
+        fs::write(records(&card, generation).join(name_of(5)), vec![5; LOG_LEN + 9]).expect("written");
         assert_eq!(card.log().expect("read").bytes.len(), LOG_LEN + 1);
-        fs::write(card.folder.join(LOG), format!("generation {}\n", u64::MAX)).expect("written");
-        assert!(card.empty().is_err());
+        // The last generation of all: the first comes behind it.
+        fs::write(card.folder().join(LOG), format!("generation {}\n", u64::MAX)).expect("written");
+        card.empty().expect("emptied");
+        assert_eq!(names(card.folder()), ["log", "records.0"]);
     }
 }

@@ -8,7 +8,7 @@ use std::fmt;
 
 pub use crate::ffi::Vault as Numbers;
 use crate::limits::METERS;
-use crate::{ffi, words};
+use crate::{ffi, secret, words};
 
 /// A store that the host has to carry out before the next call.
 #[derive(Clone, Copy, Debug, PartialEq, Eq)]
@@ -225,10 +225,27 @@ impl From<Reading> for ffi::Entry {
     }
 }
 
-/// A collector: the state that the library last returned.
-#[derive(Clone, Debug)]
+/// A collector: the state that the library last returned. The key is in it, and is overwritten in memory when it is dropped.
+#[derive(Clone)]
 pub struct Collector {
     state: Box<ffi::State>,
+}
+
+/// Without the key.
+impl fmt::Debug for Collector {
+    fn fmt(&self, to: &mut fmt::Formatter) -> fmt::Result {
+        write!(to, "Collector {{ phase: {:?}, due: {:?} }}", self.phase(), self.due())
+    }
+}
+
+impl Drop for Collector {
+    fn drop(&mut self) {
+        let state: *mut ffi::State = &mut *self.state;
+        // SAFETY: the state's own bytes, of which all 0 is a state too.
+        secret::wipe(unsafe { std::slice::from_raw_parts_mut(state.cast::<u8>(), size_of::<ffi::State>()) });
+        // The calls were handed the state on the stack.
+        secret::wipe_stack();
+    }
 }
 
 impl Collector {

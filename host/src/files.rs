@@ -2,13 +2,18 @@
 //!
 //! A file is written under a temporary name, brought to the disk, renamed to its own name, and the folder brought to the
 //! disk. A cut before the rename leaves the old file, one after it the new file; a temporary file that is left over is
-//! written over the next time, and no reader looks at it.
+//! removed the next time, and no reader looks at it.
 
+use std::ffi::OsStr;
 use std::fmt;
-use std::fs::{self, File, OpenOptions};
-use std::io::{self, Read, Write};
-use std::os::unix::fs::OpenOptionsExt;
+use std::io::{self, Write};
+use std::os::unix::ffi::OsStrExt;
 use std::path::{Path, PathBuf};
+
+use crate::dir::Dir;
+
+/// How the name of a temporary file ends; it begins with a dot.
+const UNFINISHED: &str = ".new";
 
 /// Whether a store waits until the disk has it.
 #[derive(Clone, Copy, Debug, PartialEq, Eq)]
@@ -26,6 +31,8 @@ pub enum Fault {
     Unusable { path: PathBuf, error: io::Error },
     /// It holds something else than it should.
     Damaged { path: PathBuf, why: &'static str },
+    /// It cannot be written because the card is full.
+    Full { path: PathBuf },
     /// A store would lower a number of the vault, or set one that the vault has not.
     Lowered { what: String, from: u64, to: u64 },
 }
@@ -40,6 +47,17 @@ impl Fault {
     pub fn damaged(path: &Path, why: &'static str) -> Fault {
         Fault::Damaged { path: path.to_path_buf(), why }
     }
+
+    /// For `ok_or_else`: a file that is not there.
+    pub fn missing(path: &Path) -> Fault {
+        Fault::unusable(path)(io::ErrorKind::NotFound.into())
+    }
+
+    /// Whether there is no room left to write in.
+    pub fn is_no_room(&self) -> bool {
+        let full = |kind| matches!(kind, io::ErrorKind::StorageFull | io::ErrorKind::QuotaExceeded);
+        matches!(self, Fault::Full { .. }) || matches!(self, Fault::Unusable { error, .. } if full(error.kind()))
+    }
 }
 
 impl fmt::Display for Fault {
@@ -47,6 +65,11 @@ impl fmt::Display for Fault {
         match self {
             Fault::Unusable { path, error } => write!(to, "{}: {}", shown(path), plain(error)),
             Fault::Damaged { path, why } => write!(to, "{}: {why}", shown(path)),
+            Fault::Full { path } => write!(
+                to,
+                "{}: no room left on the card; delete from it what is not the box's, or copy it to a larger one",
+                shown(path)
+            ),
             Fault::Lowered { what, from, to: low } => {
                 write!(to, "the vault only counts up: {what} is {from} and cannot become {low}")
             }
@@ -80,19 +103,44 @@ fn plain(error: &io::Error) -> String {
         io::ErrorKind::NotFound | io::ErrorKind::NotADirectory => "not found".to_string(),
         io::ErrorKind::AlreadyExists => "is there already".to_string(),
         io::ErrorKind::PermissionDenied => "no permission".to_string(),
-        io::ErrorKind::StorageFull => "no room left".to_string(),
+        io::ErrorKind::StorageFull | io::ErrorKind::QuotaExceeded => "no room left".to_string(),
         io::ErrorKind::IsADirectory => "is a folder".to_string(),
         _ => error.to_string().split(" (os error").next().unwrap_or_default().to_lowercase(),
     }
 }
 
 /// Writes a file whole or not at all.
-pub fn replace(folder: &Path, name: &str, bytes: &[u8], mode: u32, disk: Disk) -> Result<(), Fault> {
-    let last = folder.join(name);
-    let first = folder.join(format!(".{name}.new"));
-    write_new(&first, bytes, mode, disk).map_err(Fault::unusable(&last))?;
-    step().and_then(|()| fs::rename(&first, &last)).map_err(Fault::unusable(&last))?;
-    settle(folder, disk)
+pub fn replace(folder: &Dir, name: &str, bytes: &[u8], mode: u32, disk: Disk) -> Result<(), Fault> {
+    let first = format!(".{name}{UNFINISHED}");
+    let write = || -> io::Result<()> {
+        let mut file = folder.create(&first, mode)?;
+        step()?;
+        file.write_all(bytes)?;
+        match disk {
+            Disk::Wait => file.sync_all()?,
+            Disk::Quick => {}
+        }
+        drop(file);
+        folder.rename(&first, name)
+    };
+    if let Err(error) = write() {
+        // What is there of it takes up room.
+        let _ = folder.remove(&first);
+        return Err(Fault::unusable(&folder.path().join(name))(error));
+    }
+    folder.settle(disk)
+}
+
+/// The folder that a path's last name stands in, and that name.
+pub fn place(path: &Path) -> Result<(Dir, &OsStr), Fault> {
+    let name = path.file_name().ok_or_else(|| Fault::damaged(path, "no folder can have this name"))?;
+    let above = path.parent().filter(|above| !above.as_os_str().is_empty()).unwrap_or(Path::new("."));
+    Ok((Dir::open(above)?, name))
+}
+
+/// Whether a name is that of a temporary file.
+pub fn is_unfinished(name: &OsStr) -> bool {
+    name.as_bytes().starts_with(b".") && name.as_bytes().ends_with(UNFINISHED.as_bytes())
 }
 
 /// Stands before everything that changes a file or a folder. In tests the power can fail here.
@@ -100,39 +148,6 @@ pub(crate) fn step() -> io::Result<()> {
     #[cfg(test)]
     power::step()?;
     Ok(())
-}
-
-/// Writes the temporary file.
-fn write_new(path: &Path, bytes: &[u8], mode: u32, disk: Disk) -> io::Result<()> {
-    step()?;
-    let mut file = OpenOptions::new().write(true).create(true).truncate(true).mode(mode).open(path)?;
-    step()?;
-    file.write_all(bytes)?;
-    match disk {
-        Disk::Wait => file.sync_all(),
-        Disk::Quick => Ok(()),
-    }
-}
-
-/// Brings a folder's names to the disk.
-pub fn settle(folder: &Path, disk: Disk) -> Result<(), Fault> {
-    match disk {
-        Disk::Wait => File::open(folder).and_then(|f| f.sync_all()).map_err(Fault::unusable(folder)),
-        Disk::Quick => Ok(()),
-    }
-}
-
-/// The first `limit` bytes of a file; a pipe or a device in its place is not read.
-pub fn read_at_most(path: &Path, limit: usize) -> Result<Vec<u8>, Fault> {
-    let read = || -> io::Result<Option<Vec<u8>>> {
-        if !fs::metadata(path)?.is_file() {
-            return Ok(None);
-        }
-        let mut bytes = Vec::new();
-        File::open(path)?.take(limit as u64).read_to_end(&mut bytes)?;
-        Ok(Some(bytes))
-    };
-    read().map_err(Fault::unusable(path))?.ok_or_else(|| Fault::damaged(path, "is not a file"))
 }
 
 #[cfg(test)]
@@ -207,6 +222,8 @@ pub mod scratch {
     use std::sync::atomic::{AtomicU32, Ordering};
     use std::{env, fs, process};
 
+    use crate::dir::Dir;
+
     static COUNT: AtomicU32 = AtomicU32::new(0);
 
     /// A folder of its own.
@@ -223,6 +240,10 @@ pub mod scratch {
 
         pub fn path(&self) -> &Path {
             &self.0
+        }
+
+        pub fn dir(&self) -> Dir {
+            Dir::open(&self.0).expect("there")
         }
     }
 

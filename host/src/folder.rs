@@ -2,15 +2,19 @@
 //!
 //! `key` has the 16 bytes of the key in hexadecimal, made at random. `card` names the folder of the card that is in the
 //! box (see `card`), so that a card can be swapped; a name without a leading `/` is taken from the box's folder. `lock`
-//! is held by the session that runs the box: there is one at a time.
+//! is held by the session that runs the box: there is one at a time. Only the box's owner can open `vault`, `key` and `lock`.
 
-use std::fs::{self, File, OpenOptions, TryLockError};
+use std::fs::{self, File, TryLockError};
 use std::io::Read;
-use std::path::{Path, PathBuf};
+use std::os::unix::fs::MetadataExt;
+use std::path::Path;
 
 use crate::card::Card;
+use crate::collector::Numbers;
+use crate::dir::Dir;
 use crate::files::{self, Disk, Fault};
 use crate::limits::KEY_LEN;
+use crate::secret::Secret;
 use crate::vault::VaultFile;
 
 const KEY: &str = "key";
@@ -18,11 +22,20 @@ const CARD: &str = "card";
 const LOCK: &str = "lock";
 /// The card that a new box comes with.
 const FIRST_CARD: &str = "card-1";
+/// The owner alone.
+const PRIVATE: u32 = 0o600;
+const PRIVATE_FOLDER: u32 = 0o700;
+const OPEN: u32 = 0o644;
+/// What a key's file has: two digits a byte and an end of line.
+const KEY_TEXT: usize = 2 * KEY_LEN + 1;
+
+/// A key in memory.
+pub type Key = Secret<KEY_LEN>;
 
 /// A box's folder, and the right to run the box.
 #[derive(Debug)]
 pub struct BoxFolder {
-    folder: PathBuf,
+    dir: Dir,
     disk: Disk,
     /// Held as long as this is.
     _lock: File,
@@ -31,70 +44,91 @@ pub struct BoxFolder {
 impl BoxFolder {
     /// A new box in a folder that is not there yet, or is empty: a new vault, a key made at random, an empty card.
     pub fn create(folder: &Path, disk: Disk) -> Result<(), Fault> {
+        BoxFolder::create_with(folder, &Numbers::default(), disk)
+    }
+
+    /// The same with a vault that has counted already, for trying what a box says when a counter is spent.
+    pub fn create_with(folder: &Path, numbers: &Numbers, disk: Disk) -> Result<(), Fault> {
         if fs::metadata(folder).is_err() {
-            fs::create_dir(folder).map_err(Fault::unusable(folder))?;
+            let (above, name) = files::place(folder)?;
+            above.make(name, PRIVATE_FOLDER).map_err(Fault::unusable(folder))?;
         }
-        if fs::read_dir(folder).map_err(Fault::unusable(folder))?.next().is_some() {
+        let dir = Dir::open(folder)?;
+        let mut empty = true;
+        dir.names(|_| empty = false)?;
+        if !empty {
             return Err(Fault::damaged(folder, "this folder is not empty"));
         }
+        // Its own name is on the disk too, whoever made it.
+        let full = fs::canonicalize(folder).map_err(Fault::unusable(folder))?;
+        if full.parent().is_some() {
+            files::place(&full)?.0.settle(disk)?;
+        }
         Card::create(&folder.join(FIRST_CARD), disk)?;
-        files::replace(folder, CARD, format!("{FIRST_CARD}\n").as_bytes(), 0o644, disk)?;
-        files::replace(folder, KEY, hex(&random_key()?).as_bytes(), 0o600, disk)?;
-        VaultFile::create(folder, disk).map(|_| ())
+        files::replace(&dir, CARD, format!("{FIRST_CARD}\n").as_bytes(), OPEN, disk)?;
+        files::replace(&dir, KEY, &*hex(&random_key()?), PRIVATE, disk)?;
+        VaultFile::create(&dir, numbers, disk).map(|_| ())
     }
 
     /// The box of a folder. A fault where the folder is none of a box, or another session runs it.
     pub fn open(folder: &Path, disk: Disk) -> Result<BoxFolder, Fault> {
+        let dir = Dir::open(folder)?;
         // The vault is looked for first: a folder that has none is no box, and stays as it is.
-        VaultFile::open(folder, disk)?;
-        let path = folder.join(LOCK);
-        if fs::metadata(&path).is_ok_and(|there| !there.is_file()) {
-            return Err(Fault::damaged(&path, "is not a file"));
-        }
-        let lock = OpenOptions::new().write(true).create(true).truncate(false).open(&path);
-        let lock = lock.map_err(Fault::unusable(&path))?;
+        VaultFile::open(&dir, disk)?;
+        let lock = lock_file(&dir)?;
         match lock.try_lock() {
-            Ok(()) => Ok(BoxFolder { folder: folder.to_path_buf(), disk, _lock: lock }),
+            Ok(()) => Ok(BoxFolder { dir, disk, _lock: lock }),
             Err(TryLockError::WouldBlock) => Err(Fault::damaged(folder, "another session runs this box")),
-            Err(TryLockError::Error(error)) => Err(Fault::unusable(&path)(error)),
+            Err(TryLockError::Error(error)) => Err(Fault::unusable(&folder.join(LOCK))(error)),
         }
+    }
+
+    /// Brings to the disk what a session that was killed left without waiting for it.
+    pub fn settle(&self) -> Result<(), Fault> {
+        self.dir.settle(self.disk)
     }
 
     /// Its vault, as the file has it now.
     pub fn vault(&self) -> Result<VaultFile, Fault> {
-        VaultFile::open(&self.folder, self.disk)
+        VaultFile::open(&self.dir, self.disk)
     }
 
     /// Its key.
-    pub fn key(&self) -> Result<[u8; KEY_LEN], Fault> {
-        let path = self.folder.join(KEY);
-        let text = files::read_at_most(&path, 2 * KEY_LEN + 2)?;
-        unhex(&text).ok_or_else(|| Fault::damaged(&path, "damaged, not 16 bytes in hexadecimal"))
+    pub fn key(&self) -> Result<Key, Fault> {
+        let path = self.path().join(KEY);
+        // A byte more than a key's file has: what is longer is no key.
+        let mut text = Secret::<{ KEY_TEXT + 1 }>::zero();
+        let len = self.dir.read_into(KEY, &mut *text)?.ok_or_else(|| Fault::missing(&path))?;
+        unhex(&text[..len]).ok_or_else(|| Fault::damaged(&path, "damaged, not 16 bytes in hexadecimal"))
     }
 
     /// The card that is in it.
     pub fn card(&self) -> Result<Card, Fault> {
-        let path = self.folder.join(CARD);
-        let text = files::read_at_most(&path, 8192)?;
+        let path = self.path().join(CARD);
+        let text = self.dir.read(CARD, 8192)?.ok_or_else(|| Fault::missing(&path))?;
         let text = String::from_utf8(text).map_err(|_| Fault::damaged(&path, "damaged, it names no folder"))?;
         let name = text.strip_suffix('\n').filter(|name| !name.is_empty() && !name.contains(['\n', '\0']));
         let name = name.ok_or_else(|| Fault::damaged(&path, "damaged, it names no folder"))?;
-        Card::open(&self.folder.join(name), self.disk)
+        Card::open(&self.path().join(name), self.disk)
     }
 
     /// Puts the card of another folder in.
     pub fn put_in(&self, card: &Path) -> Result<(), Fault> {
         let full = |path: &Path| fs::canonicalize(path).map_err(Fault::unusable(path));
-        let (card_full, own) = (full(card)?, full(&self.folder)?);
+        let (card_full, own) = (full(card)?, full(self.path())?);
+        if own.starts_with(&card_full) {
+            return Err(Fault::damaged(card, "this is no card: the box itself lies in it"));
+        }
         let name = card_full.strip_prefix(&own).unwrap_or(&card_full);
         let name = name.to_str().filter(|name| !name.is_empty() && !name.contains('\n'));
         let name = name.ok_or_else(|| Fault::damaged(card, "no card can have this name"))?;
-        files::replace(&self.folder, CARD, format!("{name}\n").as_bytes(), 0o644, self.disk)
+        Card::open(&card_full, self.disk)?.settle()?;
+        files::replace(&self.dir, CARD, format!("{name}\n").as_bytes(), OPEN, self.disk)
     }
 
     /// Where it is.
     pub fn path(&self) -> &Path {
-        &self.folder
+        self.dir.path()
     }
 
     /// Whether its stores wait for the disk.
@@ -103,27 +137,53 @@ impl BoxFolder {
     }
 }
 
+/// The file that is locked, one that only the owner can open. One that others can open too, as they were made before, is
+/// replaced: somebody else may hold it.
+fn lock_file(dir: &Dir) -> Result<File, Fault> {
+    let path = dir.path().join(LOCK);
+    let owner = dir.metadata().map_err(Fault::unusable(dir.path()))?.uid();
+    for _ in 0..2 {
+        let lock = dir.keep(LOCK, PRIVATE).map_err(Fault::unusable(&path))?;
+        let found = lock.metadata().map_err(Fault::unusable(&path))?;
+        if !found.is_file() {
+            return Err(Fault::damaged(&path, "is not a file"));
+        }
+        // SAFETY: a number is asked for.
+        let own = found.uid() == owner || found.uid() == unsafe { libc::geteuid() };
+        if own && found.mode() & 0o077 == 0 {
+            return Ok(lock);
+        }
+        dir.remove(LOCK).map_err(Fault::unusable(&path))?;
+    }
+    Err(Fault::damaged(&path, "others can open it"))
+}
+
 /// A key made at random.
-fn random_key() -> Result<[u8; KEY_LEN], Fault> {
+fn random_key() -> Result<Key, Fault> {
     let source = Path::new("/dev/urandom");
-    let mut key = [0; KEY_LEN];
-    File::open(source).and_then(|mut f| f.read_exact(&mut key)).map_err(Fault::unusable(source))?;
+    let mut key = Key::zero();
+    File::open(source).and_then(|mut f| f.read_exact(&mut *key)).map_err(Fault::unusable(source))?;
     Ok(key)
 }
 
 /// A key as its file has it.
-fn hex(key: &[u8; KEY_LEN]) -> String {
-    let digits: String = key.iter().map(|b| format!("{b:02x}")).collect();
-    digits + "\n"
+fn hex(key: &Key) -> Secret<KEY_TEXT> {
+    let digit = |value: u8| char::from_digit(u32::from(value), 16).map_or(b'0', |c| c as u8);
+    let mut text = Secret::zero();
+    for (pair, byte) in text.chunks_exact_mut(2).zip(key.iter()) {
+        pair.copy_from_slice(&[digit(byte / 16), digit(byte % 16)]);
+    }
+    text[KEY_TEXT - 1] = b'\n';
+    text
 }
 
 /// The key of a file.
-fn unhex(text: &[u8]) -> Option<[u8; KEY_LEN]> {
+fn unhex(text: &[u8]) -> Option<Key> {
     let digits = text.strip_suffix(b"\n").unwrap_or(text);
     if digits.len() != 2 * KEY_LEN {
         return None;
     }
-    let mut key = [0; KEY_LEN];
+    let mut key = Key::zero();
     for (byte, pair) in key.iter_mut().zip(digits.chunks(2)) {
         let digit = |c: u8| char::from(c).to_digit(16);
         *byte = (digit(pair[0])? * 16 + digit(pair[1])?) as u8;
@@ -138,10 +198,12 @@ mod tests {
 
     #[test]
     fn keys_are_read_as_written() {
-        let key = *b"\x00\x01\xfe\xff0123456789ab";
-        assert_eq!(unhex(hex(&key).as_bytes()), Some(key));
-        assert_eq!(unhex(b"00"), None);
-        assert_eq!(unhex(&[b'g'; 32]), None);
+        let mut key = Key::zero();
+        key.copy_from_slice(b"\x00\x01\xfe\xff0123456789ab");
+        assert_eq!(hex(&key)[..], *b"0001feff303132333435363738396162\n");
+        assert_eq!(unhex(&*hex(&key)).map(|key| *key), Some(*key));
+        assert!(unhex(b"00").is_none());
+        assert!(unhex(&[b'g'; 32]).is_none());
     }
 
     #[test]

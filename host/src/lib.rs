@@ -6,8 +6,8 @@
 //! For the bench there is a whole box in a folder: a vault kept in a file (`vault`), a card kept in a folder (`card`), and a
 //! runner that carries out exactly the one named store before the next call (`runner`). The program `paviluko` runs it.
 //!
-//! A module uses only those named before it: `limits`, `ffi`, `words`, `collector`, `files`, `vault`, `card`, `folder`,
-//! `runner`; `transaction` uses `limits`, and `identity`, which says what the library is, `ffi`.
+//! A module uses only those named before it: `limits`, `ffi`, `words`, `secret`, `collector`, `files` with `dir`, `vault`, `card`,
+//! `folder`, `runner`; `transaction` uses `limits`, and `identity`, which says what the library is, `ffi`.
 //!
 //! ```no_run
 //! use paviluko_host::{Collector, Numbers, Store};
@@ -26,12 +26,14 @@
 
 pub mod card;
 pub mod collector;
+pub mod dir;
 pub mod ffi;
 pub mod files;
 pub mod folder;
 pub mod identity;
 pub mod limits;
 pub mod runner;
+pub mod secret;
 pub mod transaction;
 pub mod vault;
 pub mod words;

@@ -4,6 +4,10 @@
 //! before the next call. Every call goes through `Runner::call`, which does so; nothing else here sets the vault or
 //! writes to the card. A store that cannot be done stops the box as a power cut does, since the next call may not come
 //! before it. The plug can be pulled before or after any store.
+//!
+//! Two things a host does beside the stores. When S is stored, what no start asks for any more is removed from the card; a
+//! card without room is swept the same way, and the store tried again. And before a start acts on what it finds, that is on
+//! the disk, whoever wrote it: a session that was killed, or somebody who copied a card.
 
 use std::fmt;
 use std::path::Path;
@@ -12,8 +16,13 @@ use crate::card::{Card, Log};
 use crate::collector::{Collector, Numbers, Phase, Refusal, Store, Taken};
 use crate::files::{Disk, Fault};
 use crate::folder::BoxFolder;
-use crate::limits::{FILE_LEN, KEY_LEN};
+use crate::limits::{FILE_LEN, POINTS};
 use crate::vault::VaultFile;
+
+/// So often a record is read back before it counts as lost.
+const READS: usize = 3;
+/// The number of a box that holds as many records or points as it can.
+const FULL: u8 = 7;
 
 /// On which side of a store the power fails.
 #[derive(Clone, Copy, Debug, PartialEq, Eq)]
@@ -61,6 +70,9 @@ pub enum Stop {
     Store { store: Store, fault: Fault },
     /// A file could not be read; the state is as before.
     Failed(Fault),
+    /// A record that was just written does not read back, so its reading is not visible; and what the start came to that
+    /// followed, since the lane could not go on before one.
+    Unread { position: u64, why: Box<Stop>, start: Result<Started, Box<Stop>> },
 }
 
 impl From<Fault> for Stop {
@@ -84,6 +96,20 @@ impl fmt::Display for Stop {
                 )
             }
             Stop::Failed(fault) => write!(to, "failed: {fault}"),
+            Stop::Unread { position, why, start } => {
+                write!(to, "failed: the record at position {position} does not read back from the card ({why}). ")?;
+                match start {
+                    Ok(started) => {
+                        let stores = started.stores;
+                        write!(
+                            to,
+                            "Its reading is not visible. The box was started again and is in service after {stores} stores: "
+                        )?;
+                        write!(to, "take the reading anew, and change the card if this comes again")
+                    }
+                    Err(stop) => write!(to, "Its reading is not visible. The box was started again: {stop}"),
+                }
+            }
         }
     }
 }
@@ -108,10 +134,20 @@ pub struct Numbered {
     pub position: u64,
 }
 
-/// A box that runs, or could. It holds the key, so it has no way to be printed.
+/// What making room came to.
+#[derive(Clone, Copy, Debug, PartialEq, Eq)]
+pub struct Tidied {
+    /// Where the point stands.
+    pub point: u64,
+    /// The checkpoint's version.
+    pub version: u64,
+    /// Records that were deleted from the card.
+    pub deleted: usize,
+}
+
+/// A box that runs, or could. The key is in its collector's state, so it has no way to be printed.
 pub struct Runner {
     folder: BoxFolder,
-    key: [u8; KEY_LEN],
     vault: VaultFile,
     /// The state; none without power.
     collector: Option<Collector>,
@@ -126,22 +162,24 @@ impl Runner {
     /// The box of a folder, without power, and with or without a card.
     pub fn open(folder: &Path, disk: Disk) -> Result<Runner, Fault> {
         let folder = BoxFolder::open(folder, disk)?;
-        let (key, vault) = (folder.key()?, folder.vault()?);
+        folder.key()?;
+        let vault = folder.vault()?;
         let out = vec![0; FILE_LEN];
-        Ok(Runner { folder, key, vault, collector: None, plug: Plug::default(), stores: 0, out })
+        Ok(Runner { folder, vault, collector: None, plug: Plug::default(), stores: 0, out })
     }
 
     /// Load and Recover, until the box is in service. The vault's numbers and the key are read anew. A box that is
     /// refused stays cold.
     pub fn start(&mut self) -> Result<Started, Stop> {
         self.collector = None;
+        self.folder.settle()?;
         self.vault = self.folder.vault()?;
-        self.key = self.folder.key()?;
         let numbers = *self.vault.numbers();
         let card = self.card()?;
+        card.settle()?;
         let checkpoint = card.checkpoint(numbers.s)?;
         let Log { bytes: log, records } = card.log()?;
-        self.collector = Some(Collector::load(&numbers, &self.key).map_err(Stop::Refused)?);
+        self.collector = Some(Collector::load(&numbers, &*self.folder.key()?).map_err(Stop::Refused)?);
         let mut stores = 0;
         while self.phase() != Some(Phase::InService) {
             self.call(|collector, out| collector.recover(&checkpoint, &log, out))?;
@@ -150,11 +188,46 @@ impl Runner {
         Ok(Started { stores, records })
     }
 
-    /// Accept, Seal and Commit: takes a transaction on a lane and makes it visible.
+    /// Accept, Seal and Commit: takes a transaction on a lane and makes it visible. A record that does not read back is read
+    /// again; where it never does, the box is started again, so that the lane goes on.
     pub fn take(&mut self, lane: u8, transaction: &[u8]) -> Result<Numbered, Stop> {
         let accepted = self.accept(lane, transaction)?;
-        self.commit(accepted.position)?;
-        Ok(accepted)
+        let mut last = Stop::Off;
+        for _ in 0..READS {
+            match self.commit(accepted.position) {
+                Ok(()) => return Ok(accepted),
+                Err(stop @ (Stop::Refused(_) | Stop::Failed(_))) => last = stop,
+                Err(stop) => return Err(stop),
+            }
+        }
+        let start = self.start().map_err(Box::new);
+        Err(Stop::Unread { position: accepted.position, why: Box::new(last), start })
+    }
+
+    /// The same, where room is made for it if the box holds as many records as it can; and what was done for that.
+    pub fn take_tidy(&mut self, lane: u8, transaction: &[u8]) -> Result<(Numbered, Option<Tidied>), Stop> {
+        match self.take(lane, transaction) {
+            Err(Stop::Refused(Refusal { number: FULL, .. })) => {
+                let tidied = self.tidy()?;
+                Ok((self.take(lane, transaction)?, Some(tidied)))
+            }
+            taken => Ok((taken?, None)),
+        }
+    }
+
+    /// Makes room: a point, a checkpoint, a truncation. Where as many points are kept as can be, they go first.
+    pub fn tidy(&mut self) -> Result<Tidied, Stop> {
+        let collector = self.collector.as_ref().ok_or(Stop::Off)?;
+        let before = self.card()?.held()?.records;
+        if collector.points() == POINTS as u64 {
+            self.checkpoint()?;
+            self.truncate(None)?;
+        }
+        let point = self.point(None)?;
+        let (version, _) = self.checkpoint()?;
+        self.truncate(None)?;
+        let deleted = before.saturating_sub(self.card()?.held()?.records);
+        Ok(Tidied { point, version, deleted })
     }
 
     /// Accept and Seal: the first half of taking a transaction, up to its record on the card.
@@ -217,8 +290,12 @@ impl Runner {
 
     /// Lifts the card out and puts another one in, with power or without.
     pub fn swap_card(&mut self, folder: &Path) -> Result<(), Fault> {
-        Card::open(folder, self.folder.disk())?;
         self.folder.put_in(folder)
+    }
+
+    /// Copies the card that is in to a folder that is not there yet.
+    pub fn copy_card(&self, folder: &Path) -> Result<(), Fault> {
+        self.card()?.copy_to(folder, self.numbers().s)
     }
 
     /// The card that is in; a fault where there is none.
@@ -304,18 +381,51 @@ impl Runner {
 
     /// Does a store.
     fn store(&mut self, store: &Store, len: usize) -> Result<(), Fault> {
-        let bytes = self.out.get(..len).unwrap_or_default();
-        match *store {
-            Store::Record { position } => self.card()?.write_record(position, bytes),
-            Store::Checkpoint => self.card()?.write_checkpoint(bytes),
-            Store::Delete { below } => self.card()?.delete_below(below),
-            Store::Empty => self.card()?.empty(),
+        match store {
+            Store::Record { .. } | Store::Checkpoint | Store::Delete { .. } | Store::Empty => {
+                self.card_store(store, len)
+            }
             Store::W { .. }
             | Store::V { .. }
             | Store::R { .. }
             | Store::E { .. }
             | Store::S { .. }
-            | Store::N { .. } => self.vault.set(store),
+            | Store::N { .. } => {
+                self.vault.set(store)?;
+                if let (Store::S { value }, Ok(card)) = (store, self.card()) {
+                    card.sweep(*value);
+                }
+                Ok(())
+            }
         }
+    }
+
+    /// Does a store of the card. Where it is full, it is swept; and what makes room gets the room that was kept for it.
+    fn card_store(&self, store: &Store, len: usize) -> Result<(), Fault> {
+        let card = self.card()?;
+        let bytes = self.out.get(..len).unwrap_or_default();
+        let write = || match *store {
+            Store::Record { position } => card.write_record(position, bytes),
+            Store::Delete { below } => card.delete_below(below),
+            Store::Empty => card.empty(),
+            _ => card.write_checkpoint(bytes),
+        };
+        let no_room = |done: &Result<(), Fault>| done.as_ref().is_err_and(Fault::is_no_room);
+        let mut done = write();
+        if no_room(&done) {
+            card.sweep(self.numbers().s);
+            done = write();
+        }
+        let makes_room = !matches!(store, Store::Record { .. });
+        if no_room(&done) && makes_room && card.give_up_reserve() {
+            done = write();
+        }
+        if no_room(&done) {
+            return Err(Fault::Full { path: card.folder().to_path_buf() });
+        }
+        if done.is_ok() && matches!(store, Store::Delete { .. } | Store::Empty) {
+            card.keep_reserve();
+        }
+        done
     }
 }

@@ -4,9 +4,8 @@
 //! so that a damaged file is noticed. Setting a number writes the whole file anew, or not at all. The file stands for
 //! the vault chip of a box: it is as safe as the folder it lies in.
 
-use std::path::{Path, PathBuf};
-
 use crate::collector::{Numbers, Store};
+use crate::dir::Dir;
 use crate::files::{self, Disk, Fault};
 use crate::limits::LANES;
 
@@ -18,27 +17,27 @@ const LONGEST: usize = 4096;
 /// A vault in a file.
 #[derive(Debug)]
 pub struct VaultFile {
-    folder: PathBuf,
+    folder: Dir,
     numbers: Numbers,
     disk: Disk,
 }
 
 impl VaultFile {
-    /// A new vault in a folder, all numbers zero.
-    pub fn create(folder: &Path, disk: Disk) -> Result<VaultFile, Fault> {
-        let vault = VaultFile { folder: folder.to_path_buf(), numbers: Numbers::default(), disk };
+    /// A new vault in a folder, with these numbers: all zero but for tests and trying.
+    pub fn create(folder: &Dir, numbers: &Numbers, disk: Disk) -> Result<VaultFile, Fault> {
+        let vault = VaultFile { folder: folder.again()?, numbers: *numbers, disk };
         vault.write(&vault.numbers)?;
         Ok(vault)
     }
 
     /// The vault of a folder. A damaged file is a fault.
-    pub fn open(folder: &Path, disk: Disk) -> Result<VaultFile, Fault> {
-        let path = folder.join(NAME);
-        let bytes = files::read_at_most(&path, LONGEST)?;
+    pub fn open(folder: &Dir, disk: Disk) -> Result<VaultFile, Fault> {
+        let path = folder.path().join(NAME);
+        let bytes = folder.read(NAME, LONGEST)?.ok_or_else(|| Fault::missing(&path))?;
         let numbers = parse(&bytes).ok_or_else(|| {
             Fault::damaged(&path, "damaged, its numbers do not match their checksum: keep the card and change the box")
         })?;
-        Ok(VaultFile { folder: folder.to_path_buf(), numbers, disk })
+        Ok(VaultFile { folder: folder.again()?, numbers, disk })
     }
 
     /// The 27 numbers.
@@ -129,14 +128,14 @@ mod tests {
     #[test]
     fn numbers_rise_and_are_read_back() {
         let scratch = Scratch::new();
-        let mut vault = VaultFile::create(scratch.path(), Disk::Quick).expect("made");
+        let mut vault = VaultFile::create(&scratch.dir(), &Numbers::default(), Disk::Quick).expect("made");
         vault.set(&Store::W { lane: 7, value: 3 }).expect("set");
         vault.set(&Store::W { lane: 7, value: 3 }).expect("the same again");
         vault.set(&Store::N { value: 9 }).expect("set");
         assert!(matches!(vault.set(&Store::N { value: 8 }), Err(Fault::Lowered { from: 9, to: 8, .. })));
         assert!(vault.set(&Store::W { lane: 8, value: 1 }).is_err());
         assert!(vault.set(&Store::Empty).is_err());
-        let again = VaultFile::open(scratch.path(), Disk::Wait).expect("open");
+        let again = VaultFile::open(&scratch.dir(), Disk::Wait).expect("open");
         let mut expected = Numbers { n: 9, ..Numbers::default() };
         expected.w[7] = 3;
         assert_eq!(*again.numbers(), expected);
@@ -146,11 +145,11 @@ mod tests {
     fn a_number_is_wholly_set_or_not() {
         let scratch = Scratch::new();
         let prepare = || {
-            let mut vault = VaultFile::create(scratch.path(), Disk::Quick).expect("made");
+            let mut vault = VaultFile::create(&scratch.dir(), &Numbers::default(), Disk::Quick).expect("made");
             vault.set(&Store::S { value: 99 }).expect("set");
             vault
         };
-        let see = |_: &VaultFile| *VaultFile::open(scratch.path(), Disk::Wait).expect("open").numbers();
+        let see = |_: &VaultFile| *VaultFile::open(&scratch.dir(), Disk::Wait).expect("open").numbers();
         let store = |vault: &mut VaultFile| vault.set(&Store::S { value: 100 });
         assert!(cut_everywhere(prepare, store, see) >= 3);
     }

@@ -85,7 +85,7 @@ fn a_copied_card_is_as_good_until_one_of_both_goes_on() {
     let visible = readings(&runner);
     let old = runner.card().expect("there").folder().to_path_buf();
     runner.cut();
-    runner.card().expect("there").copy_to(&place.join("copy")).expect("copied");
+    runner.copy_card(&place.join("copy")).expect("copied");
     assert_eq!(number(&mut runner, &place.join("copy")), 0);
     assert_eq!(readings(&runner), visible);
     assert_eq!(number(&mut runner, &old), 12);

@@ -177,7 +177,7 @@ fn box_with_readings(folder: &Path, spring: &Path) -> (Runner, Vec<(u8, Reading)
         let writes = [transaction::Write { meter, code: 1 + (meter % 4) as u8, reading: i32::from(turn) }];
         runner.take((turn % 3) as u8, &transaction::bytes(u64::from(turn / 2), &writes)).expect("taken");
         if turn == 6 {
-            runner.card().expect("there").copy_to(spring).expect("copied");
+            runner.copy_card(spring).expect("copied");
         }
         if turn == 10 || turn == 14 {
             runner.point(None).expect("set");

@@ -20,7 +20,7 @@ quietly() {
     "$@" >"$log" 2>&1 || { cat "$log" >&2; exit 1; }
 }
 
-quietly cargo build --release --offline --locked --quiet
+quietly sh tools/cargo.sh build --release --quiet
 
 sheet=crates/bench_sheet/stdout
 "$rust/sheet" >"$log"
@@ -30,14 +30,14 @@ if ! diff "$log" "$sheet" >&2; then
 fi
 echo "bench sheet: $(wc -l <"$sheet") lines, the model's and the library's the same"
 
-quietly cargo test --release --offline --locked --quiet -p paviluko_model
-quietly cargo test --release --offline --locked --quiet -p paviluko_host --test agreement
+quietly sh tools/cargo.sh test --release --quiet -p paviluko_model
+quietly sh tools/cargo.sh test --release --quiet -p paviluko_host --test agreement
 echo "C boundary: Rust's declarations agree with the library"
 
-quietly cargo test --release --offline --locked --quiet -p paviluko_host --test bits
+quietly sh tools/cargo.sh test --release --quiet -p paviluko_host --test bits
 echo "C boundary: no bit of a record or a checkpoint can be turned over"
 
-quietly cargo test --release --offline --locked --quiet -p paviluko_histories --lib
+quietly sh tools/cargo.sh test --release --quiet -p paviluko_histories --lib
 echo "histories: each of 15 faults put into a model is caught"
 
 quietly "$rust/histories" --histories 2400 --events 400 --seed 1

@@ -5,5 +5,5 @@ cd "$(dirname "$0")/../.."
 
 sh tools/lib.sh --brief
 sh tests/cipher/packages.sh gcc libc6-dev libssl-dev
-cargo build --release --offline --locked --quiet -p paviluko_histories
+sh tools/cargo.sh build --release --quiet -p paviluko_histories
 target-rust/release/histories --histories "$1" --events 400 --seed "$2" --progress

@@ -56,7 +56,7 @@ flip() {
     printf "\\$(printf %03o $((byte ^ 1)))" | dd of="$1" bs=1 seek="$2" conv=notrunc 2>/dev/null
 }
 
-quietly cargo build --release --offline --locked --quiet -p paviluko_host
+quietly sh tools/cargo.sh build --release --quiet -p paviluko_host
 
 # ---- sessions ----
 
@@ -310,12 +310,12 @@ echo "program: $cases boxes with damaged files, each refused or taken as it shou
 # ---- kills, cards, demonstration ----
 
 cd "$top"
-quietly cargo test --release --offline --locked --quiet -p paviluko_host --lib --bins
-quietly cargo test --release --offline --locked --quiet -p paviluko_host --test cards
+quietly sh tools/cargo.sh test --release --quiet -p paviluko_host --lib --bins
+quietly sh tools/cargo.sh test --release --quiet -p paviluko_host --test cards
 echo 'program: vault file, card folder and the change of a card, cut at every store'
-quietly cargo test --release --offline --locked --quiet -p paviluko_host --test odd -- --nocapture
+quietly sh tools/cargo.sh test --release --quiet -p paviluko_host --test odd -- --nocapture
 echo "program: random commands and files, no panic; $(grep -o '[0-9]* damaged cards.*table' "$log")"
-quietly cargo test --release --offline --locked --quiet -p paviluko_host --test killed -- --nocapture
+quietly sh tools/cargo.sh test --release --quiet -p paviluko_host --test killed -- --nocapture
 echo "program: $(grep -o '[0-9]* kills.*' "$log")"
 quietly "$program" demo
 echo "program: demonstration: $(grep 'power cuts' "$log")"

@@ -250,7 +250,7 @@ impl Demo {
                 truncations += 1;
             }
             if turn == 500 {
-                self.runner.card()?.copy_to(copy)?;
+                self.runner.copy_card(copy)?;
             }
         }
         self.check()?;
@@ -361,7 +361,7 @@ impl Demo {
         let own = self.runner.card()?.folder().to_path_buf();
         let (earlier, empty) = (place.join("an-hour-ago"), place.join("empty"));
         self.take()?;
-        self.runner.card()?.copy_to(&earlier)?;
+        self.runner.copy_card(&earlier)?;
         self.take()?;
         fs::create_dir(&empty).map_err(Fault::unusable(&empty))?;
         self.runner.cut();

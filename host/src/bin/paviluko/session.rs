@@ -253,7 +253,7 @@ impl Session {
     }
 
     fn copy_card(&mut self, dir: &Path) -> Result<Answer, Stop> {
-        self.runner.card()?.copy_to(dir)?;
+        self.runner.copy_card(dir)?;
         Ok(Answer::fine(format!("card copied to {}", shown(dir))))
     }
 
