@@ -109,7 +109,10 @@ impl Card {
             Some(records) => records.read(name_of(position), RECORD_LEN + 1)?,
             None => None,
         };
-        bytes.ok_or_else(|| Fault::missing(&self.folder().join(folder).join(name_of(position))))
+        let bytes = bytes.ok_or_else(|| Fault::missing(&self.folder().join(folder).join(name_of(position))))?;
+        #[cfg(test)]
+        let bytes = files::medium::read(bytes);
+        Ok(bytes)
     }
 
     /// Store: writes a checkpoint. The others of its version are not asked for any more.
@@ -124,14 +127,15 @@ impl Card {
     /// Store: deletes the records below a position.
     pub fn delete_below(&self, position: u64) -> Result<(), Fault> {
         let generation = self.generation()?;
-        let kept = self.positions(generation)?.into_iter().filter(|&at| at >= position).collect();
-        self.switch(generation, kept)
+        let mut kept = self.positions(generation)?;
+        kept.retain(|&at| at >= position);
+        self.switch(generation, &kept)
     }
 
     /// Store: deletes all records.
     pub fn empty(&self) -> Result<(), Fault> {
         let generation = self.generation().unwrap_or_default();
-        self.switch(generation, Vec::new())
+        self.switch(generation, &[])
     }
 
     /// Removes what no start asks for, as far as that can be done: checkpoints of a version below S, which is stored, what
@@ -218,8 +222,9 @@ impl Card {
         }
         // A name of its own until it is complete; what a cut leaves of it is in nobody's way.
         let unfinished = format!(".{}.{}.new", name.to_string_lossy(), std::process::id());
-        let copy = Card::create(&folder.with_file_name(&unfinished), self.disk)?;
+        let copy = Card::create(&folder.with_file_name(&unfinished), Disk::Quick)?;
         self.copy_files(&copy, s)?;
+        copy.dir.settle_all(self.disk)?;
         above.rename(&unfinished, name).map_err(Fault::unusable(folder))?;
         above.settle(self.disk)
     }
@@ -232,7 +237,7 @@ impl Card {
             let mut room = LOG_LEN + 1;
             for position in self.positions(generation)? {
                 let bytes = records.read(name_of(position), room)?.unwrap_or_default();
-                files::replace(&to, &name_of(position), &bytes, FILE_MODE, self.disk)?;
+                files::replace(&to, &name_of(position), &bytes, FILE_MODE, copy.disk)?;
                 room -= bytes.len();
                 if room == 0 {
                     break;
@@ -244,9 +249,9 @@ impl Card {
             copy.write_checkpoint(&checkpoint)?;
         }
         if let Ok(Some(line)) = self.dir.read(LOG, 64) {
-            files::replace(&copy.dir, LOG, &line, FILE_MODE, self.disk)?;
+            files::replace(&copy.dir, LOG, &line, FILE_MODE, copy.disk)?;
         }
-        copy.dir.settle(self.disk)
+        Ok(())
     }
 
     /// The generation in force.
@@ -274,22 +279,30 @@ impl Card {
     }
 
     /// Makes a new generation with the kept records of the one in force, puts it in force, and sweeps the others.
-    fn switch(&self, from: u64, kept: Vec<u64>) -> Result<(), Fault> {
+    fn switch(&self, from: u64, kept: &[u64]) -> Result<(), Fault> {
         let (next, new) = self.next_generation(from)?;
-        let old = if kept.is_empty() { None } else { self.folder_of(from)? };
-        for (position, old) in kept.into_iter().zip(old.iter().cycle()) {
-            let name = name_of(position);
-            // A second name for the same file; a copy where the card's file system has no second names.
-            if old.link(&name, &new).is_err() {
-                let bytes = old.read(&name, LOG_LEN)?.unwrap_or_default();
-                files::replace(&new, &name, &bytes, FILE_MODE, self.disk)?;
-            }
+        if let Some(old) = self.folder_of(from).ok().flatten() {
+            self.keep(&old, &new, kept)?;
         }
-        new.settle(self.disk)?;
         files::replace(&self.dir, LOG, format!("generation {next}\n").as_bytes(), FILE_MODE, self.disk)?;
         // The store is done. What cannot be swept now is read by nobody, and is tried again the next time.
         self.sweep_generations(next);
         Ok(())
+    }
+
+    /// Puts records of one generation's folder into another's, and brings them to the disk.
+    fn keep(&self, old: &Dir, new: &Dir, kept: &[u64]) -> Result<(), Fault> {
+        let mut copied = false;
+        for &position in kept {
+            let name = name_of(position);
+            // A second name for the same file; a copy where the card's file system has no second names.
+            if old.link(&name, new).is_err() {
+                let bytes = old.read(&name, LOG_LEN)?.unwrap_or_default();
+                files::replace(new, &name, &bytes, FILE_MODE, Disk::Quick)?;
+                copied = true;
+            }
+        }
+        if copied { new.settle_all(self.disk) } else { new.settle(self.disk) }
     }
 
     /// A new folder of records behind a generation: the first name that is not taken. Whoever took very many is no box.

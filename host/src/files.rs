@@ -215,6 +215,32 @@ pub mod power {
 }
 
 #[cfg(test)]
+pub mod medium {
+    //! A medium of a test that reads badly some times.
+
+    use std::cell::Cell;
+
+    thread_local! {
+        static BAD: Cell<u32> = const { Cell::new(0) };
+    }
+
+    /// So many times from here a record is read with a wrong bit.
+    pub fn reads_badly(times: u32) {
+        BAD.set(times);
+    }
+
+    pub fn read(mut bytes: Vec<u8>) -> Vec<u8> {
+        if BAD.get() > 0 {
+            BAD.set(BAD.get() - 1);
+            if let Some(last) = bytes.last_mut() {
+                *last ^= 1;
+            }
+        }
+        bytes
+    }
+}
+
+#[cfg(test)]
 pub mod scratch {
     //! Folders for tests, removed at their end.
 

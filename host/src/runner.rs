@@ -429,3 +429,84 @@ impl Runner {
         done
     }
 }
+
+#[cfg(test)]
+mod tests {
+    use super::*;
+    use crate::files::medium::reads_badly;
+    use crate::files::scratch::Scratch;
+    use crate::limits::RECORDS;
+    use crate::transaction::{self, Write};
+
+    fn reading(stamp: u64) -> Vec<u8> {
+        transaction::bytes(stamp, &[Write { meter: 3, code: 1, reading: stamp as i32 }])
+    }
+
+    fn started(scratch: &Scratch) -> Runner {
+        let place = scratch.path().join("box");
+        BoxFolder::create(&place, Disk::Quick).expect("made");
+        let mut runner = Runner::open(&place, Disk::Quick).expect("opened");
+        runner.start().expect("started");
+        runner
+    }
+
+    fn latest(runner: &Runner) -> u64 {
+        runner.collector().and_then(|c| c.reading(3)).map_or(0, |reading| reading.stamp)
+    }
+
+    #[test]
+    fn a_record_that_reads_badly_is_read_again() {
+        let scratch = Scratch::new();
+        let mut runner = started(&scratch);
+        for bad in 0..READS as u32 {
+            reads_badly(bad);
+            let taken = runner.take(0, &reading(u64::from(bad) + 1)).expect("taken");
+            assert_eq!(taken.number, u64::from(bad) + 1);
+        }
+        assert_eq!(latest(&runner), READS as u64);
+    }
+
+    #[test]
+    fn a_record_that_never_reads_back_jams_no_lane() {
+        let scratch = Scratch::new();
+        let mut runner = started(&scratch);
+        runner.take(0, &reading(1)).expect("taken");
+        reads_badly(READS as u32);
+        let Err(stop) = runner.take(0, &reading(2)) else { panic!("taken") };
+        assert!(matches!(stop, Stop::Unread { position: 1, start: Ok(Started { stores: 24, .. }), .. }), "{stop}");
+        assert_eq!(latest(&runner), 1);
+        assert_eq!(runner.take(0, &reading(2)).expect("taken").number, 3);
+        assert_eq!(latest(&runner), 2);
+    }
+
+    #[test]
+    fn room_is_made_for_a_reading() {
+        let scratch = Scratch::new();
+        let mut runner = started(&scratch);
+        for stamp in 1..=RECORDS as u64 {
+            assert!(runner.take_tidy(0, &reading(stamp)).expect("taken").1.is_none());
+        }
+        assert!(matches!(runner.take(0, &reading(900)), Err(Stop::Refused(Refusal { number: FULL, .. }))));
+        let (_, tidied) = runner.take_tidy(0, &reading(900)).expect("taken");
+        assert_eq!(tidied.map(|t| (t.point, t.deleted)), Some((RECORDS as u64, RECORDS)));
+        assert_eq!(latest(&runner), 900);
+    }
+
+    #[test]
+    fn room_is_made_with_all_points_kept_too() {
+        let scratch = Scratch::new();
+        let mut runner = started(&scratch);
+        for stamp in 1..=POINTS as u64 {
+            runner.take(0, &reading(stamp)).expect("taken");
+            runner.point(None).expect("set");
+        }
+        for stamp in 0..RECORDS as u64 {
+            runner.take(0, &reading(100 + stamp)).expect("taken");
+        }
+        assert!(matches!(runner.point(None), Err(Stop::Refused(Refusal { number: FULL, .. }))));
+        let (_, tidied) = runner.take_tidy(0, &reading(900)).expect("taken");
+        assert_eq!(tidied.map(|t| t.deleted), Some(RECORDS + POINTS));
+        assert_eq!(runner.card().and_then(|card| card.held()).expect("read").records, 1);
+        assert_eq!(latest(&runner), 900);
+    }
+}
