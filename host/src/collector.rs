@@ -248,8 +248,11 @@ impl Drop for Collector {
     }
 }
 
+// Each call hands the state over on the stack. These methods are never part of another function, so that such copies lie in
+// frames that are gone when they return, and `secret::wipe_stack` gets at them.
 impl Collector {
     /// Load: a cold collector from the vault's own numbers and the key. Names no store. Refuses with 2 and 3.
+    #[inline(never)]
     pub fn load(numbers: &Numbers, key: &[u8]) -> Result<Collector, Refusal> {
         // SAFETY: the key's bytes are read for its length alone.
         let reply = unsafe { ffi::paviluko_load(*numbers, key.as_ptr(), key.len()) };
@@ -268,6 +271,7 @@ impl Collector {
 
     /// Accept: holds a transaction for a lane and a position. Names W's store; the record is then due.
     /// Refuses with 1, 4, 5, 6, 7 and 8.
+    #[inline(never)]
     pub fn accept(&mut self, transaction: &[u8], lane: u8, position: u64) -> Result<Taken, Refusal> {
         // SAFETY: the transaction's bytes are read for their length alone.
         let reply =
@@ -276,6 +280,7 @@ impl Collector {
     }
 
     /// Seal: puts the held transaction's record out and names its store. Refuses with 1 and 3.
+    #[inline(never)]
     pub fn seal(&mut self, out: &mut [u8]) -> Result<Taken, Refusal> {
         // SAFETY: the output is written within its length alone.
         let reply = unsafe { ffi::paviluko_seal(*self.state, out.as_mut_ptr(), out.len()) };
@@ -283,6 +288,7 @@ impl Collector {
     }
 
     /// Commit: takes a record's bytes from the card into the table and names V's store. Refuses with 1, 9, 10 and 11.
+    #[inline(never)]
     pub fn commit(&mut self, record: &[u8]) -> Result<Taken, Refusal> {
         // SAFETY: the record's bytes are read for their length alone.
         let reply = unsafe { ffi::paviluko_commit(*self.state, record.as_ptr(), record.len()) };
@@ -290,6 +296,7 @@ impl Collector {
     }
 
     /// Point: sets a point at a position. Names no store. Refuses with 1, 6, 7 and 15.
+    #[inline(never)]
     pub fn point(&mut self, position: u64) -> Result<Taken, Refusal> {
         // SAFETY: nothing is lent.
         let reply = unsafe { ffi::paviluko_point(*self.state, position) };
@@ -298,6 +305,7 @@ impl Collector {
 
     /// Checkpoint: in three calls the stores of N, of the file and of S. The second call puts the file out.
     /// Refuses with 1, 3 (second call) and 8 (first call).
+    #[inline(never)]
     pub fn checkpoint(&mut self, out: &mut [u8]) -> Result<Taken, Refusal> {
         // SAFETY: the output is written within its length alone.
         let reply = unsafe { ffi::paviluko_checkpoint(*self.state, out.as_mut_ptr(), out.len()) };
@@ -305,6 +313,7 @@ impl Collector {
     }
 
     /// Truncate: in nine calls the stores of R of each lane and the deletion. Refuses with 1 and 14 (first call).
+    #[inline(never)]
     pub fn truncate(&mut self, position: u64) -> Result<Taken, Refusal> {
         // SAFETY: nothing is lent.
         let reply = unsafe { ffi::paviluko_truncate(*self.state, position) };
@@ -314,6 +323,7 @@ impl Collector {
     /// Recover: the first call reads the checkpoint and the log; 14 or 23 more name the stores left, and look at neither.
     /// The second and fifth calls put a file out. In service after the last.
     /// Refuses with 1, 3, and the first call with 8, 9, 10, 11, 12 and 13.
+    #[inline(never)]
     pub fn recover(&mut self, checkpoint: &[u8], log: &[u8], out: &mut [u8]) -> Result<Taken, Refusal> {
         // SAFETY: checkpoint and log are read for their lengths alone, the output is written within its own.
         let reply = unsafe {
@@ -331,6 +341,7 @@ impl Collector {
     }
 
     /// A meter's latest reading, if it has one.
+    #[inline(never)]
     pub fn reading(&self, meter: u8) -> Option<Reading> {
         // SAFETY: nothing is lent.
         let entry = unsafe { ffi::paviluko_reading(*self.state, meter) };
@@ -344,12 +355,14 @@ impl Collector {
     }
 
     /// The 27 numbers in the state.
+    #[inline(never)]
     pub fn numbers(&self) -> Numbers {
         // SAFETY: nothing is lent.
         unsafe { ffi::paviluko_numbers(*self.state) }
     }
 
     /// The collector's condition.
+    #[inline(never)]
     pub fn phase(&self) -> Phase {
         // SAFETY: nothing is lent.
         match unsafe { ffi::paviluko_phase(*self.state) } {
@@ -360,6 +373,7 @@ impl Collector {
     }
 
     /// The store that is due.
+    #[inline(never)]
     pub fn due(&self) -> Due {
         // SAFETY: nothing is lent.
         let raw = unsafe { ffi::paviluko_due_store(*self.state) };
@@ -367,12 +381,14 @@ impl Collector {
     }
 
     /// How many accepted records are listed: those at or above the newest point.
+    #[inline(never)]
     pub fn records(&self) -> u64 {
         // SAFETY: nothing is lent.
         unsafe { ffi::paviluko_records(*self.state) }
     }
 
     /// How many points are kept.
+    #[inline(never)]
     pub fn points(&self) -> u64 {
         // SAFETY: nothing is lent.
         unsafe { ffi::paviluko_points(*self.state) }
