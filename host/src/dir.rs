@@ -316,3 +316,109 @@ fn done(result: c_int) -> io::Result<()> {
 fn is_code(error: &io::Error, codes: &[c_int]) -> bool {
     error.raw_os_error().is_some_and(|code| codes.contains(&code))
 }
+
+#[cfg(test)]
+mod tests {
+    use std::fs;
+    use std::io::Write;
+    use std::os::unix::fs::symlink;
+    use std::os::unix::net::UnixListener;
+
+    use super::*;
+    use crate::files::scratch::Scratch;
+
+    /// A card's folder beside a file and a folder that are none of its business.
+    fn place() -> (Scratch, Dir) {
+        let scratch = Scratch::new();
+        fs::create_dir_all(scratch.path().join("card/records")).expect("made");
+        fs::create_dir(scratch.path().join("outside")).expect("made");
+        fs::write(scratch.path().join("vault"), "numbers").expect("written");
+        let card = Dir::open_itself(&scratch.path().join("card")).expect("there");
+        (scratch, card)
+    }
+
+    fn pipe(path: &Path) {
+        let name = CString::new(path.as_os_str().as_bytes()).expect("a name");
+        // SAFETY: the name ends with a 0.
+        assert_eq!(unsafe { libc::mkfifo(name.as_ptr(), 0o600) }, 0);
+    }
+
+    #[test]
+    fn only_regular_files_are_read() {
+        let (_scratch, card) = place();
+        symlink("../vault", card.path().join("link")).expect("made");
+        symlink("link", card.path().join("link-to-link")).expect("made");
+        symlink("loop", card.path().join("loop")).expect("made");
+        pipe(&card.path().join("pipe"));
+        let _socket = UnixListener::bind(card.path().join("socket")).expect("made");
+        for name in ["link", "link-to-link", "loop", "pipe", "socket", "records"] {
+            assert!(matches!(card.read(name, 9), Err(Fault::Damaged { why: "is not a file", .. })), "{name}");
+        }
+        assert!(matches!(card.read("nothing", 9), Ok(None)));
+        fs::write(card.path().join("file"), "0123456789").expect("written");
+        assert_eq!(card.read("file", 9).expect("read").expect("there"), b"012345678");
+        assert_eq!(card.read("file", 99).expect("read").expect("there"), b"0123456789");
+        File::create(card.path().join("huge")).and_then(|file| file.set_len(1 << 40)).expect("made");
+        assert_eq!(card.read("huge", 9).expect("read").expect("there"), [0; 9]);
+    }
+
+    #[test]
+    fn folders_are_no_links() {
+        let (scratch, card) = place();
+        symlink("../outside", card.path().join("link")).expect("made");
+        fs::write(card.path().join("file"), []).expect("written");
+        for name in ["link", "file"] {
+            assert!(matches!(card.folder(name), Err(Fault::Damaged { why: "is not a folder", .. })), "{name}");
+        }
+        assert!(matches!(card.folder("nothing"), Ok(None)));
+        symlink("card", scratch.path().join("other")).expect("made");
+        assert!(Dir::open(&scratch.path().join("other")).is_ok());
+        assert!(Dir::open_itself(&scratch.path().join("other")).is_err());
+    }
+
+    #[test]
+    fn nothing_is_written_through_a_name() {
+        let (scratch, card) = place();
+        let path = |name: &str| card.path().join(name);
+        symlink("../vault", path("link")).expect("made");
+        symlink("../not-there", path("dangling")).expect("made");
+        fs::hard_link(scratch.path().join("vault"), path("second")).expect("made");
+        pipe(&path("pipe"));
+        fs::create_dir(path("empty")).expect("made");
+        for name in ["link", "dangling", "second", "pipe", "empty"] {
+            card.create(name, 0o600).and_then(|mut file| file.write_all(b"new")).expect("written");
+            assert_eq!(fs::read(path(name)).expect("read"), b"new", "{name}");
+            assert!(fs::symlink_metadata(path(name)).expect("there").is_file(), "{name}");
+        }
+        assert_eq!(fs::read(scratch.path().join("vault")).expect("read"), b"numbers");
+        assert!(!scratch.path().join("not-there").exists());
+        fs::write(path("records/1"), []).expect("written");
+        assert!(card.create("records", 0o600).is_err());
+        assert!(card.create("../vault", 0o600).is_err());
+    }
+
+    #[test]
+    fn a_folder_stays_itself_when_it_is_exchanged() {
+        let (scratch, card) = place();
+        let records = card.folder("records").expect("a folder").expect("there");
+        fs::rename(card.path().join("records"), card.path().join("aside")).expect("renamed");
+        symlink("../outside", card.path().join("records")).expect("made");
+        records.create("file", 0o600).expect("made");
+        assert!(card.path().join("aside/file").exists());
+        assert_eq!(fs::read_dir(scratch.path().join("outside")).expect("there").count(), 0);
+    }
+
+    #[test]
+    fn names_are_listed() {
+        let (_scratch, card) = place();
+        let odd = OsStr::from_bytes(b"\xff\n\x1b");
+        fs::write(card.path().join(odd), []).expect("written");
+        let mut names = Vec::new();
+        assert_eq!(card.names(|name| names.push(name.to_os_string())).expect("listed"), Listed::Whole);
+        names.sort();
+        assert_eq!(names, [OsStr::new("records"), odd]);
+        card.remove(odd).expect("removed");
+        card.remove("records").expect("removed");
+        assert_eq!(card.remove("records").expect_err("gone").kind(), io::ErrorKind::NotFound);
+    }
+}

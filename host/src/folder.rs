@@ -222,4 +222,32 @@ mod tests {
         drop(folder);
         assert!(BoxFolder::open(&place, Disk::Wait).is_ok());
     }
+
+    #[test]
+    fn a_lock_that_others_can_open_is_replaced() {
+        let scratch = Scratch::new();
+        let place = scratch.path().join("box");
+        BoxFolder::create(&place, Disk::Quick).expect("made");
+        let path = place.join(LOCK);
+        let old = File::create(&path).expect("made");
+        old.set_permissions(std::os::unix::fs::PermissionsExt::from_mode(0o644)).expect("set");
+        old.lock().expect("locked");
+        let folder = BoxFolder::open(&place, Disk::Quick).expect("opened");
+        assert_eq!(fs::metadata(&path).expect("there").mode() & 0o777, PRIVATE);
+        assert!(BoxFolder::open(&place, Disk::Quick).is_err());
+        drop(folder);
+        assert!(BoxFolder::open(&place, Disk::Quick).is_ok());
+        assert_eq!(fs::metadata(&place).expect("there").mode() & 0o777, PRIVATE_FOLDER);
+    }
+
+    #[test]
+    fn no_box_lies_in_its_card() {
+        let scratch = Scratch::new();
+        let place = scratch.path().join("box");
+        BoxFolder::create(&place, Disk::Quick).expect("made");
+        let folder = BoxFolder::open(&place, Disk::Quick).expect("opened");
+        assert!(folder.put_in(scratch.path()).is_err());
+        assert!(folder.put_in(&place).is_err());
+        assert_eq!(folder.card().expect("there").folder(), place.join(FIRST_CARD));
+    }
 }
