@@ -264,7 +264,7 @@ impl Card {
 
     /// The folder of a generation's records, if there is one.
     fn folder_of(&self, generation: u64) -> Result<Option<Dir>, Fault> {
-        self.dir.folder(&records_name(generation))
+        self.dir.folder(records_name(generation))
     }
 
     /// The positions of a generation's records, in order.
