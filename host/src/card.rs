@@ -21,7 +21,7 @@ use std::ffi::{OsStr, OsString};
 use std::io;
 use std::path::Path;
 
-use crate::dir::{Dir, Listed};
+use crate::dir::{Dir, Listed, MOST_NAMES};
 use crate::files::{self, Disk, Fault};
 use crate::limits::{FILE_LEN, LOG_LEN, RECORD_LEN};
 
@@ -36,12 +36,16 @@ const RESERVE: &str = "reserve";
 /// Room for a checkpoint, two folders and `log` on a file system that gives each 16 KB.
 const RESERVE_LEN: usize = 65_536;
 
+/// A file that is written to see whether one can be; a temporary file by its name.
+const TRIAL: &str = ".trial.new";
+
 /// Bytes of a checkpoint's head.
 const HEAD_LEN: usize = 20;
-/// So many names are tried for a new generation.
-const MOST_TRIES: usize = 1000;
 /// So many names are removed in one sweep; what is left then is left to the next.
 const MOST_REMOVED: usize = 16_384;
+
+/// What is said of a folder with more names than are looked at.
+const TOO_MANY: &str = "this is no box's card: it has too many names";
 
 const FOLDER_MODE: u32 = 0o755;
 const FILE_MODE: u32 = 0o644;
@@ -136,6 +140,17 @@ impl Card {
     pub fn empty(&self) -> Result<(), Fault> {
         let generation = self.generation().unwrap_or_default();
         self.switch(generation, &[])
+    }
+
+    /// Whether the stores of a start can be done: a checkpoint can be written, and a log begun. Nothing is left of the trial.
+    pub fn try_out(&self) -> Result<(), Fault> {
+        whole(&self.dir, self.dir.names(|_| ())?)?;
+        let folder = self.ensure(CHECKPOINTS)?;
+        for (folder, len) in [(&folder, FILE_LEN), (&self.dir, 1)] {
+            files::replace(folder, TRIAL, &vec![0; len], FILE_MODE, Disk::Quick)?;
+            folder.remove(TRIAL).map_err(Fault::unusable(folder.path()))?;
+        }
+        Ok(())
     }
 
     /// Removes what no start asks for, as far as that can be done: checkpoints of a version below S, which is stored, what
@@ -296,8 +311,9 @@ impl Card {
         for &position in kept {
             let name = name_of(position);
             // A second name for the same file; a copy where the card's file system has no second names.
-            if old.link(&name, new).is_err() {
-                let bytes = old.read(&name, LOG_LEN)?.unwrap_or_default();
+            if old.link(&name, new).is_err()
+                && let Some(bytes) = readable(old.read(&name, LOG_LEN))?.flatten()
+            {
                 files::replace(new, &name, &bytes, FILE_MODE, Disk::Quick)?;
                 copied = true;
             }
@@ -305,10 +321,10 @@ impl Card {
         if copied { new.settle_all(self.disk) } else { new.settle(self.disk) }
     }
 
-    /// A new folder of records behind a generation: the first name that is not taken. Whoever took very many is no box.
+    /// A new folder of records behind a generation: the first name that is not taken.
     fn next_generation(&self, from: u64) -> Result<(u64, Dir), Fault> {
         let mut next = from;
-        for _ in 0..MOST_TRIES {
+        for _ in 0..=MOST_NAMES {
             next = next.wrapping_add(1);
             let name = records_name(next);
             match self.dir.make(&name, FOLDER_MODE) {
@@ -320,7 +336,7 @@ impl Card {
                 Err(error) => return Err(Fault::unusable(&self.folder().join(name))(error)),
             }
         }
-        Err(Fault::damaged(self.folder(), "damaged, no name is left on it for a log"))
+        Err(Fault::damaged(self.folder(), TOO_MANY))
     }
 
     /// Removes all records that are not of a generation, and what a cut left of a store.
@@ -346,13 +362,14 @@ impl Card {
         }
     }
 
-    /// A folder that is there from now on.
+    /// A folder that is there from now on. What has its name and is no folder is removed.
     fn ensure(&self, name: &str) -> Result<Dir, Fault> {
-        if let Some(folder) = self.dir.folder(name)? {
+        if let Some(folder) = readable(self.dir.folder(name))?.flatten() {
             return Ok(folder);
         }
         let path = self.folder().join(name);
-        self.dir.make(name, FOLDER_MODE).map_err(Fault::unusable(&path))?;
+        let make = || self.dir.clear(name).and_then(|()| self.dir.make(name, FOLDER_MODE));
+        make().map_err(Fault::unusable(&path))?;
         self.dir.settle(self.disk)?;
         self.dir.folder(name)?.ok_or_else(|| Fault::missing(&path))
     }
@@ -371,7 +388,7 @@ fn readable<T>(found: Result<T, Fault>) -> Result<Option<T>, Fault> {
 fn whole(folder: &Dir, listed: Listed) -> Result<(), Fault> {
     match listed {
         Listed::Whole => Ok(()),
-        Listed::Part => Err(Fault::damaged(folder.path(), "this is no box's card: it has too many names")),
+        Listed::Part => Err(Fault::damaged(folder.path(), TOO_MANY)),
     }
 }
 

@@ -26,6 +26,9 @@ use crate::files::{Disk, Fault, step};
 /// More names than this are looked at in no folder.
 pub const MOST_NAMES: usize = 1 << 18;
 
+/// What a folder that is in the way is called, before a number.
+const ASIDE: &str = "in-the-way.";
+
 /// An open folder.
 #[derive(Debug)]
 pub struct Dir {
@@ -138,13 +141,10 @@ impl Dir {
         is_there(self.fd(), name.as_ref())
     }
 
-    /// A new file. What had its name before is removed.
+    /// A new file. What had its name before is removed or put aside.
     pub fn create(&self, name: impl AsRef<OsStr>, mode: u32) -> io::Result<File> {
         let name = name.as_ref();
-        match self.remove(name) {
-            Err(error) if error.kind() != io::ErrorKind::NotFound => return Err(error),
-            _ => {}
-        }
+        self.clear(name)?;
         step()?;
         open_at(self.fd(), name, libc::O_WRONLY | libc::O_CREAT | libc::O_EXCL | libc::O_NOFOLLOW, mode)
     }
@@ -189,6 +189,20 @@ impl Dir {
         };
         match unlink(0) {
             Err(error) if is_code(&error, &[libc::EISDIR, libc::EPERM]) => unlink(libc::AT_REMOVEDIR),
+            other => other,
+        }
+    }
+
+    /// Makes a name free: what has it is removed, and a folder with something in it gets another name.
+    pub fn clear(&self, name: impl AsRef<OsStr>) -> io::Result<()> {
+        let name = name.as_ref();
+        match self.remove(name) {
+            Err(error) if error.kind() == io::ErrorKind::NotFound => Ok(()),
+            Err(error) if is_code(&error, &[libc::ENOTEMPTY, libc::EEXIST]) => {
+                let mut others = (0..=MOST_NAMES).map(|number| format!("{ASIDE}{number}"));
+                let free = others.find(|other| !self.has(other)).ok_or(error)?;
+                self.rename(name, free)
+            }
             other => other,
         }
     }
@@ -392,9 +406,21 @@ mod tests {
         }
         assert_eq!(fs::read(scratch.path().join("vault")).expect("read"), b"numbers");
         assert!(!scratch.path().join("not-there").exists());
-        fs::write(path("records/1"), []).expect("written");
-        assert!(card.create("records", 0o600).is_err());
         assert!(card.create("../vault", 0o600).is_err());
+    }
+
+    #[test]
+    fn a_folder_in_the_way_is_put_aside() {
+        let (_scratch, card) = place();
+        let path = |name: &str| card.path().join(name);
+        for number in 0..2 {
+            fs::create_dir_all(path("records/1")).expect("made");
+            card.create("records", 0o600).expect("made");
+            assert!(path("records").is_file());
+            assert!(path(&format!("{ASIDE}{number}/1")).is_dir());
+            card.clear("records").expect("removed");
+        }
+        card.clear("records").expect("nothing to remove");
     }
 
     #[test]

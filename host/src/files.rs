@@ -121,7 +121,14 @@ pub fn replace(folder: &Dir, name: &str, bytes: &[u8], mode: u32, disk: Disk) ->
             Disk::Quick => {}
         }
         drop(file);
-        folder.rename(&first, name)
+        match folder.rename(&first, name) {
+            // A folder has the name.
+            Err(error) if error.kind() == io::ErrorKind::IsADirectory => {
+                folder.clear(name)?;
+                folder.rename(&first, name)
+            }
+            other => other,
+        }
     };
     if let Err(error) = write() {
         // What is there of it takes up room.

@@ -179,8 +179,17 @@ impl Runner {
         card.settle()?;
         let checkpoint = card.checkpoint(numbers.s)?;
         let Log { bytes: log, records } = card.log()?;
-        self.collector = Some(Collector::load(&numbers, &*self.folder.key()?).map_err(Stop::Refused)?);
-        let mut stores = 0;
+        let mut collector = Collector::load(&numbers, &*self.folder.key()?).map_err(Stop::Refused)?;
+        let first = collector.recover(&checkpoint, &log, &mut self.out);
+        self.collector = Some(collector);
+        let first = first.map_err(Stop::Refused)?;
+        // The card is the box's own. Where it cannot be written to, nothing has happened yet.
+        if let Err(fault) = self.with_room(&card, true, || card.try_out()) {
+            self.collector = None;
+            return Err(Stop::Failed(fault));
+        }
+        self.follow(first)?;
+        let mut stores = 1;
         while self.phase() != Some(Phase::InService) {
             self.call(|collector, out| collector.recover(&checkpoint, &log, out))?;
             stores += 1;
@@ -354,6 +363,11 @@ impl Runner {
     {
         let collector = self.collector.as_mut().ok_or(Stop::Off)?;
         let taken = call(collector, &mut self.out).map_err(Stop::Refused)?;
+        self.follow(taken)
+    }
+
+    /// The store that a taken call names.
+    fn follow(&mut self, taken: Taken) -> Result<(), Stop> {
         match taken.store {
             Some(store) => self.carry_out(store, taken.len),
             None => Ok(()),
@@ -400,31 +414,36 @@ impl Runner {
         }
     }
 
-    /// Does a store of the card. Where it is full, it is swept; and what makes room gets the room that was kept for it.
+    /// Does a store of the card.
     fn card_store(&self, store: &Store, len: usize) -> Result<(), Fault> {
         let card = self.card()?;
         let bytes = self.out.get(..len).unwrap_or_default();
-        let write = || match *store {
+        let makes_room = !matches!(store, Store::Record { .. });
+        self.with_room(&card, makes_room, || match *store {
             Store::Record { position } => card.write_record(position, bytes),
             Store::Delete { below } => card.delete_below(below),
             Store::Empty => card.empty(),
             _ => card.write_checkpoint(bytes),
-        };
+        })?;
+        if matches!(store, Store::Delete { .. } | Store::Empty) {
+            card.keep_reserve();
+        }
+        Ok(())
+    }
+
+    /// Writes to the card. Where it is full, it is swept; and what makes room gets the room that was kept for it.
+    fn with_room(&self, card: &Card, makes_room: bool, write: impl Fn() -> Result<(), Fault>) -> Result<(), Fault> {
         let no_room = |done: &Result<(), Fault>| done.as_ref().is_err_and(Fault::is_no_room);
         let mut done = write();
         if no_room(&done) {
             card.sweep(self.numbers().s);
             done = write();
         }
-        let makes_room = !matches!(store, Store::Record { .. });
         if no_room(&done) && makes_room && card.give_up_reserve() {
             done = write();
         }
         if no_room(&done) {
             return Err(Fault::Full { path: card.folder().to_path_buf() });
-        }
-        if done.is_ok() && matches!(store, Store::Delete { .. } | Store::Empty) {
-            card.keep_reserve();
         }
         done
     }
