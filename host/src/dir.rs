@@ -53,7 +53,9 @@ impl Dir {
 
     /// The same, where the path's last name may be no link.
     pub fn open_itself(path: &Path) -> Result<Dir, Fault> {
-        Dir::at(libc::AT_FDCWD, path.as_os_str(), path, libc::O_NOFOLLOW)
+        // With a slash at its end the system would follow it.
+        let path: PathBuf = path.components().collect();
+        Dir::at(libc::AT_FDCWD, path.as_os_str(), &path, libc::O_NOFOLLOW)
     }
 
     /// A folder in it; nothing where there is none of that name.
@@ -68,9 +70,11 @@ impl Dir {
     fn at(fd: c_int, name: &OsStr, path: &Path, flags: c_int) -> Result<Dir, Fault> {
         match open_at(fd, name, libc::O_RDONLY | libc::O_DIRECTORY | flags, 0) {
             Ok(open) => Ok(Dir { open, path: path.to_path_buf() }),
-            Err(error) if is_code(&error, &[libc::ENOTDIR, libc::ELOOP]) && is_there(fd, name) => {
-                Err(Fault::damaged(path, "is not a folder"))
-            }
+            Err(error) if is_code(&error, &[libc::ENOTDIR, libc::ELOOP]) => match kind(fd, name) {
+                Some(libc::S_IFLNK) => Err(Fault::damaged(path, "is a link, not a folder")),
+                Some(_) => Err(Fault::damaged(path, "is not a folder")),
+                None => Err(Fault::unusable(path)(error)),
+            },
             Err(error) => Err(Fault::unusable(path)(error)),
         }
     }
@@ -138,7 +142,7 @@ impl Dir {
 
     /// Whether there is something of a name, whatever it is.
     pub fn has(&self, name: impl AsRef<OsStr>) -> bool {
-        is_there(self.fd(), name.as_ref())
+        kind(self.fd(), name.as_ref()).is_some()
     }
 
     /// A new file. What had its name before is removed or put aside.
@@ -303,14 +307,16 @@ fn open_at(fd: c_int, name: &OsStr, flags: c_int, mode: u32) -> io::Result<File>
     }
 }
 
-/// Whether there is something of a name in an open folder.
-fn is_there(fd: c_int, name: &OsStr) -> bool {
-    let Ok(name) = CString::new(name.as_bytes()) else { return false };
-    // SAFETY: the name ends with a 0; the kernel fills the struct, of which nothing is read.
-    unsafe {
+/// What kind of thing has a name in an open folder, as the system counts them; nothing where there is none.
+fn kind(fd: c_int, name: &OsStr) -> Option<libc::mode_t> {
+    let name = CString::new(name.as_bytes()).ok()?;
+    // SAFETY: the name ends with a 0; a struct of numbers, which the call fills.
+    let (seen, result) = unsafe {
         let mut seen: libc::stat64 = std::mem::zeroed();
-        libc::fstatat64(fd, name.as_ptr(), &mut seen, libc::AT_SYMLINK_NOFOLLOW) == 0
-    }
+        let result = libc::fstatat64(fd, name.as_ptr(), &mut seen, libc::AT_SYMLINK_NOFOLLOW);
+        (seen, result)
+    };
+    (result == 0).then_some(seen.st_mode & libc::S_IFMT)
 }
 
 /// A name for the system: it stands in the folder itself.
@@ -381,13 +387,15 @@ mod tests {
         let (scratch, card) = place();
         symlink("../outside", card.path().join("link")).expect("made");
         fs::write(card.path().join("file"), []).expect("written");
-        for name in ["link", "file"] {
-            assert!(matches!(card.folder(name), Err(Fault::Damaged { why: "is not a folder", .. })), "{name}");
+        for (name, said) in [("link", "is a link, not a folder"), ("file", "is not a folder")] {
+            assert!(matches!(card.folder(name), Err(Fault::Damaged { why, .. }) if why == said), "{name}");
         }
         assert!(matches!(card.folder("nothing"), Ok(None)));
         symlink("card", scratch.path().join("other")).expect("made");
         assert!(Dir::open(&scratch.path().join("other")).is_ok());
         assert!(Dir::open_itself(&scratch.path().join("other")).is_err());
+        assert!(Dir::open_itself(&scratch.path().join("other/")).is_err());
+        assert!(Dir::open_itself(&scratch.path().join("card/")).is_ok());
     }
 
     #[test]

@@ -114,7 +114,7 @@ impl BoxFolder {
 
     /// Puts the card of another folder in.
     pub fn put_in(&self, card: &Path) -> Result<(), Fault> {
-        Dir::open(card)?;
+        Dir::open_itself(card)?;
         let full = |path: &Path| fs::canonicalize(path).map_err(Fault::unusable(path));
         let (card_full, own) = (full(card)?, full(self.path())?);
         if own.starts_with(&card_full) {
