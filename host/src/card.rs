@@ -237,11 +237,17 @@ impl Card {
         }
         // A name of its own until it is complete; what a cut leaves of it is in nobody's way.
         let unfinished = format!(".{}.{}.new", name.to_string_lossy(), std::process::id());
-        let copy = Card::create(&folder.with_file_name(&unfinished), Disk::Quick)?;
-        self.copy_files(&copy, s)?;
-        copy.dir.settle_all(self.disk)?;
-        above.rename(&unfinished, name).map_err(Fault::unusable(folder))?;
-        above.settle(self.disk)
+        let copy = || -> Result<(), Fault> {
+            let copy = Card::create(&folder.with_file_name(&unfinished), Disk::Quick)?;
+            self.copy_files(&copy, s)?;
+            copy.dir.settle_all(self.disk)?;
+            above.rename(&unfinished, name).map_err(Fault::unusable(folder))?;
+            above.settle(self.disk)
+        };
+        copy().map_err(|fault| {
+            let _ = std::fs::remove_dir_all(folder.with_file_name(&unfinished));
+            fault.or_full(folder, "copy the card to a larger one")
+        })
     }
 
     /// Copies the records of the generation in force, `log`, and the checkpoint.

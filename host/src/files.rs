@@ -31,8 +31,8 @@ pub enum Fault {
     Unusable { path: PathBuf, error: io::Error },
     /// It holds something else than it should.
     Damaged { path: PathBuf, why: &'static str },
-    /// It cannot be written because the card is full.
-    Full { path: PathBuf },
+    /// It cannot be written because there is no room left, and what to do then.
+    Full { path: PathBuf, then: &'static str },
     /// A store would lower a number of the vault, or set one that the vault has not.
     Lowered { what: String, from: u64, to: u64 },
 }
@@ -53,6 +53,11 @@ impl Fault {
         Fault::unusable(path)(io::ErrorKind::NotFound.into())
     }
 
+    /// The fault, with what to do where there is no room left.
+    pub fn or_full(self, path: &Path, then: &'static str) -> Fault {
+        if self.is_no_room() { Fault::Full { path: path.to_path_buf(), then } } else { self }
+    }
+
     /// Whether there is no room left to write in.
     pub fn is_no_room(&self) -> bool {
         let full = |kind| matches!(kind, io::ErrorKind::StorageFull | io::ErrorKind::QuotaExceeded);
@@ -65,11 +70,7 @@ impl fmt::Display for Fault {
         match self {
             Fault::Unusable { path, error } => write!(to, "{}: {}", shown(path), plain(error)),
             Fault::Damaged { path, why } => write!(to, "{}: {why}", shown(path)),
-            Fault::Full { path } => write!(
-                to,
-                "{}: no room left on the card; delete from it what is not the box's, or copy it to a larger one",
-                shown(path)
-            ),
+            Fault::Full { path, then } => write!(to, "{}: no room left; {then}", shown(path)),
             Fault::Lowered { what, from, to: low } => {
                 write!(to, "the vault only counts up: {what} is {from} and cannot become {low}")
             }

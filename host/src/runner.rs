@@ -21,6 +21,8 @@ use crate::vault::VaultFile;
 
 /// So often a record is read back before it counts as lost.
 const READS: usize = 3;
+/// What to do with a card that has no room left.
+const FULL_CARD: &str = "delete from the card what is not the box's, or copy it to a larger one";
 /// The number of a box that holds as many records or points as it can.
 const FULL: u8 = 7;
 
@@ -442,10 +444,7 @@ impl Runner {
         if no_room(&done) && makes_room && card.give_up_reserve() {
             done = write();
         }
-        if no_room(&done) {
-            return Err(Fault::Full { path: card.folder().to_path_buf() });
-        }
-        done
+        done.map_err(|fault| fault.or_full(card.folder(), FULL_CARD))
     }
 }
 
