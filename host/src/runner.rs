@@ -13,7 +13,7 @@ use std::fmt;
 use std::path::Path;
 
 use crate::card::{Card, Log};
-use crate::collector::{Collector, Numbers, Phase, Refusal, Store, Taken};
+use crate::collector::{Collector, Numbers, Phase, Reading, Refusal, Store, Taken};
 use crate::files::{Disk, Fault};
 use crate::folder::BoxFolder;
 use crate::limits::{FILE_LEN, POINTS};
@@ -175,16 +175,9 @@ impl Runner {
     pub fn start(&mut self) -> Result<Started, Stop> {
         self.collector = None;
         self.folder.settle()?;
-        self.vault = self.folder.vault()?;
-        let numbers = *self.vault.numbers();
         let card = self.card()?;
         card.settle()?;
-        let checkpoint = card.checkpoint(numbers.s)?;
-        let Log { bytes: log, records } = card.log()?;
-        let mut collector = Collector::load(&numbers, &*self.folder.key()?).map_err(Stop::Refused)?;
-        let first = collector.recover(&checkpoint, &log, &mut self.out);
-        self.collector = Some(collector);
-        let first = first.map_err(Stop::Refused)?;
+        let (first, records) = self.read(&card)?;
         // The card is the box's own. Where it cannot be written to, nothing has happened yet.
         if let Err(fault) = self.with_room(&card, true, || card.try_out()) {
             self.collector = None;
@@ -193,10 +186,32 @@ impl Runner {
         self.follow(first)?;
         let mut stores = 1;
         while self.phase() != Some(Phase::InService) {
-            self.call(|collector, out| collector.recover(&checkpoint, &log, out))?;
+            // From the second call on Recover looks at neither checkpoint nor log.
+            self.call(|collector, out| collector.recover(&[], &[], out))?;
             stores += 1;
         }
         Ok(Started { stores, records })
+    }
+
+    /// The table that a start would come to, without one: no store is done, and vault and card stay as they are.
+    pub fn look(&mut self) -> Result<Vec<(u8, Reading)>, Stop> {
+        let card = self.card()?;
+        let read = self.read(&card);
+        let collector = self.collector.take();
+        read.map(|_| collector.map(|collector| collector.readings()).unwrap_or_default())
+    }
+
+    /// Load, and Recover's first call on what the card hands over: the store that it names, and how many records there are.
+    fn read(&mut self, card: &Card) -> Result<(Taken, usize), Stop> {
+        self.collector = None;
+        self.vault = self.folder.vault()?;
+        let numbers = *self.vault.numbers();
+        let checkpoint = card.checkpoint(numbers.s)?;
+        let Log { bytes: log, records } = card.log()?;
+        let mut collector = Collector::load(&numbers, &*self.folder.key()?).map_err(Stop::Refused)?;
+        let first = collector.recover(&checkpoint, &log, &mut self.out);
+        self.collector = Some(collector);
+        Ok((first.map_err(Stop::Refused)?, records))
     }
 
     /// Accept, Seal and Commit: takes a transaction on a lane and makes it visible. A record that does not read back is read
@@ -495,6 +510,22 @@ mod tests {
         assert_eq!(latest(&runner), 1);
         assert_eq!(runner.take(0, &reading(2)).expect("taken").number, 3);
         assert_eq!(latest(&runner), 2);
+    }
+
+    #[test]
+    fn a_look_changes_nothing() {
+        let scratch = Scratch::new();
+        let mut runner = started(&scratch);
+        runner.take(0, &reading(1)).expect("taken");
+        runner.accept(0, &reading(2)).expect("accepted");
+        let expected = runner.collector().expect("power").readings();
+        runner.cut();
+        let before = (*runner.numbers(), runner.card().and_then(|card| card.held()).expect("read"));
+        assert_eq!(runner.look().expect("taken"), expected);
+        assert!(runner.collector().is_none());
+        assert_eq!((*runner.numbers(), runner.card().and_then(|card| card.held()).expect("read")), before);
+        assert_eq!(runner.start().expect("started").stores, 24);
+        assert_eq!(runner.collector().expect("power").readings(), expected);
     }
 
     #[test]
