@@ -240,8 +240,8 @@ def position(number):
 
 
 def around(folder, leave=(), times=False):
-    """Everything below a folder: kind, mode and owner of each name, and what it holds or points to. Of the names `leave`, only that
-    they are there. With `times` also when it was written."""
+    """Everything below a folder: kind, mode and owner of each name, and what it holds or points to. Of the names `leave`, only
+    that they are there. With `times` also when it was written."""
     found = {}
 
     def look(path, name):

@@ -34,7 +34,7 @@ SETUP = [
 ]
 KNOWN = {1: 11, 2: 20, 3: 30, 4: 40, 5: 50}
 # What a person can do about a full card.
-ADVICE = re.compile("delet|remov|clear|free|larger|bigger|other card|another card|new card|change the card|swap|copy|tidy|truncate")
+ADVICE = re.compile("delet|remov|clear|free|larger|bigger|(other|another|new|change the) card|swap|copy|tidy|truncate")
 
 # What a card may hold at most after any number of readings: 128 records of at most 176 bytes since the newest point and as many
 # below it, four checkpoints, the log, and two files and three folders more.
@@ -186,7 +186,8 @@ def junk_without_power(small):
         session.end()
     script = "start\n" + "".join(f"take 7 {4000 + n} 250=1:{n}\n" for n in range(60))
     command = [small.program, "run", small.box]
-    run = subprocess.run(command, input=script.encode(), stdout=subprocess.PIPE, stderr=subprocess.STDOUT, timeout=60, check=False)
+    pipe = subprocess.PIPE
+    run = subprocess.run(command, input=script.encode(), stdout=pipe, stderr=subprocess.STDOUT, timeout=60, check=False)
     said = run.stdout.decode("utf-8", "replace")
     if bench_box.PANIC.search(said) or run.returncode != 1:
         raise Wrong(f"readings on a full card: status {run.returncode}: {said[-200:]!r}")

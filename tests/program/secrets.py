@@ -28,25 +28,27 @@ class Holder:
     """A process of another user that opens whatever it can of some files, and holds locks of every kind on them."""
 
     def __init__(self, paths):
-        back, self.answer = os.pipe()[::-1], None
-        go, self.go = os.pipe()
+        said, say = os.pipe()
+        told, self.tell = os.pipe()
         self.process = os.fork()
         if self.process == 0:
-            status = 1
             try:
-                os.close(self.go)
+                os.close(self.tell)
                 os.setgroups([])
                 os.setgid(NOBODY)
                 os.setuid(NOBODY)
-                os.write(back[0], f"{self.hold(paths)}\n".encode())
-                os.read(go, 1)
-                status = 0
+                os.write(say, f"{self.hold(paths)}\n".encode())
+                # Until the other end is closed.
+                os.read(told, 1)
             finally:
-                os._exit(status)
-        os.close(go)
-        os.close(back[0])
-        with os.fdopen(back[1]) as file:
-            self.held = file.readline().strip()
+                os._exit(0)
+        os.close(say)
+        os.close(told)
+        with os.fdopen(said) as file:
+            line = file.readline()
+        if not line:
+            raise Wrong("there is no process of another user")
+        self.held = line.strip() or "nothing"
 
     @staticmethod
     def hold(paths):
@@ -71,12 +73,10 @@ class Holder:
         return " ".join(sorted(set(held)))
 
     def __enter__(self):
-        if not self.held and self.held != "":
-            raise Wrong("the other user's process ended")
         return self
 
     def __exit__(self, *_):
-        os.close(self.go)
+        os.close(self.tell)
         os.waitpid(self.process, 0)
 
 
@@ -91,7 +91,10 @@ def everything(box):
 def runs(program, box, what):
     """The owner's session is not refused, and a second one beside it is."""
     with Session(program, box) as session:
-        started = session.ask("start")
+        try:
+            started = session.ask("start")
+        except Wrong as wrong:
+            raise Wrong(f"{what}: {wrong}") from wrong
         if not bench_box.in_service(started):
             raise Wrong(f"{what}: the owner's box does not start: {started!r}")
         with Session(program, box) as second:
@@ -118,11 +121,10 @@ def lock_of_the_owner(program, folder):
                     write(lock, b"")
                     os.chmod(lock, 0o666 if "write" in age else 0o644)
                 private(box)
-                with Holder(everything(box)) as holder:
-                    runs(program, box, f"{age}, umask {mask:03o}, {holder.held or 'nothing'} held by another user")
-                # And what can be held after it.
-                with Holder(everything(box)) as holder:
-                    runs(program, box, f"{age}, umask {mask:03o}, {holder.held or 'nothing'} held by another user after it")
+                # What can be held, and then what can be held after a session.
+                for _ in range(2):
+                    with Holder(everything(box)) as holder:
+                        runs(program, box, f"{age}, umask {mask:03o}, another user holds {holder.held}")
                 private(box)
                 count += 1
         finally:
@@ -210,7 +212,7 @@ def round_keys(key):
 
 
 def needles(key):
-    """What must not be found, by name: the key, its digits, halves of them, and the round keys with their words either way round."""
+    """What must not be found, by name: the key, its digits, halves of them, and the round keys, also with their words turned."""
     digits = key.hex().encode()
     found = {"the key": key, "half of the key": key[:8], "the other half of the key": key[8:]}
     found |= {"its digits": digits, "half of its digits": digits[:16], "the other half of its digits": digits[16:]}
@@ -340,6 +342,8 @@ def secrets(program, folder, only):
                 words.append(run(program, place))
             except Wrong as wrong:
                 failures.append(f"{name}: {wrong}")
+            except PermissionError as error:
+                words.append(f"no {name}: {error.filename} is not permitted here")
 
     attempt("lock", lock_of_the_owner)
     attempt("images", no_images)
