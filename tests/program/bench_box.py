@@ -354,10 +354,11 @@ def own_mounts():
 @contextlib.contextmanager
 def place():
     """A folder to work in, which others may pass through; in memory where that can be had."""
+    own = own_mounts()
     folder = tempfile.mkdtemp(prefix="paviluko.")
     try:
         os.chmod(folder, 0o711)
-        if own_mounts():
+        if own:
             with mounted(os.path.join(folder, "memory"), "size=4g") as memory:
                 os.chmod(memory, 0o711)
                 yield memory
@@ -376,7 +377,6 @@ def main(test, words):
     parser.add_argument("--only", default="", help="the cases whose name has this text")
     given = parser.parse_args()
     SECONDS = given.seconds
-    own_mounts()
     try:
         with place() as folder:
             print(test(os.path.abspath(given.program), folder, given.only))

@@ -456,7 +456,7 @@ WHOLE = {
     "records with names of other lengths": with_record("4", "0" * 19, "0" * 21, "-" + "0" * 19, "+" + "0" * 19),
     "a checkpoint of the top version": with_checkpoint(TOP, TOP),
     "a checkpoint of version 0": with_checkpoint(0, 0),
-    "a checkpoint of the version after the next": with_checkpoint(1 << 48, 1),
+    "a checkpoint of a version beyond every vault": with_checkpoint(1 << 48, 1),
     "folders 5,000 deep in an old generation": nested,
     "a link to a folder in the card's place": replaced_by(link("outside/folder")),
     "a link to a good card in the card's place": replaced_by(link("outside/card")),
