@@ -206,13 +206,15 @@ def unharmed(site):
 
 
 def in_place(bench, make):
-    """The card becomes hostile while the box is in service: status, a copy, readings."""
+    """The card becomes hostile while the box is in service: status, a copy, a reading, and one that is cut."""
     site = Site(bench)
     with served(site) as session:
         make(site.card, site)
         session.ask("status")
         session.ask("copy-card copies/copy")
         session.ask("take 2 2001 201=1:78")
+        # The vault is as it should be also between the stores.
+        session.ask("cut after 2")
         session.ask("take 2 2002 201=1:79")
         session.end()
         site.held(session.shown)
