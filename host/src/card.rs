@@ -76,6 +76,9 @@ pub struct Held {
 }
 
 impl Card {
+    /// The name of the folder in it that has the checkpoints.
+    pub const CHECKPOINTS: &'static str = CHECKPOINTS;
+
     /// The card in a folder, which is there and is no link.
     pub fn open(folder: &Path, disk: Disk) -> Result<Card, Fault> {
         Ok(Card { dir: Dir::open_itself(folder)?, disk })
@@ -92,6 +95,11 @@ impl Card {
     /// Its folder.
     pub fn folder(&self) -> &Path {
         self.dir.path()
+    }
+
+    /// The name of the folder in it that has the records.
+    pub fn records_folder(&self) -> Result<String, Fault> {
+        Ok(records_name(self.generation()?))
     }
 
     /// Brings to the disk what is found on it, whoever wrote it and never waited for that.

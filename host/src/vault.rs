@@ -114,6 +114,55 @@ fn parse(bytes: &[u8]) -> Option<Numbers> {
     (text(&numbers) == all).then_some(numbers)
 }
 
+/// Numbers that somebody wrote down, for trying: lines as a vault's file has them, in any order. One that is left out stands
+/// for zeros, and so the checksum may be left out too. What is wrong is said with the line's number, from 1.
+pub fn written(text: &str) -> Result<Numbers, (usize, String)> {
+    let mut numbers = Numbers::default();
+    let mut seen: Vec<(String, usize)> = Vec::new();
+    let mut sum = None;
+    for (at, line) in text.lines().enumerate().map(|(at, line)| (at + 1, line.trim())) {
+        let mut words = line.split_ascii_whitespace();
+        let Some(name) = words.next().filter(|name| !name.starts_with('#')) else { continue };
+        let values: Vec<&str> = words.collect();
+        if let Some((_, first)) = seen.iter().find(|(other, _)| other == name) {
+            return Err((at, format!("{} is in line {first} already", files::clean(name))));
+        }
+        if name == "sum" {
+            sum = Some((at, values.join(" ")));
+        } else {
+            enter(&mut numbers, name, &values).map_err(|why| (at, why))?;
+        }
+        seen.push((name.to_string(), at));
+    }
+    match sum {
+        Some((at, sum)) if !self::text(&numbers).ends_with(&format!("\nsum {sum}\n")) => {
+            Err((at, "this is not the checksum of these numbers: leave it out".to_string()))
+        }
+        _ => Ok(numbers),
+    }
+}
+
+/// Enters a line's values into the numbers that it names.
+fn enter(numbers: &mut Numbers, name: &str, values: &[&str]) -> Result<(), String> {
+    let place: &mut [u64] = match name {
+        "w" => &mut numbers.w,
+        "v" => &mut numbers.v,
+        "r" => &mut numbers.r,
+        "e" => std::slice::from_mut(&mut numbers.e),
+        "s" => std::slice::from_mut(&mut numbers.s),
+        "n" => std::slice::from_mut(&mut numbers.n),
+        _ => return Err(format!("a line begins with w, v, r, e, s or n, and not with {}", files::clean(name))),
+    };
+    if values.len() != place.len() {
+        let wanted = if place.len() == 1 { "one number is" } else { "8 numbers are" };
+        return Err(format!("{wanted} wanted behind {name}, and here are {}", values.len()));
+    }
+    for (place, value) in place.iter_mut().zip(values) {
+        *place = value.parse().map_err(|_| format!("{} is no number of the vault", files::clean(value)))?;
+    }
+    Ok(())
+}
+
 /// FNV-1a of 64 bits: it tells a damaged file from a whole one, and is no protection against anybody.
 fn checksum(bytes: &[u8]) -> u64 {
     bytes.iter().fold(0xcbf2_9ce4_8422_2325, |sum, &b| (sum ^ u64::from(b)).wrapping_mul(0x0000_0100_0000_01b3))
@@ -152,6 +201,30 @@ mod tests {
         let see = |_: &VaultFile| *VaultFile::open(&scratch.dir(), Disk::Wait).expect("open").numbers();
         let store = |vault: &mut VaultFile| vault.set(&Store::S { value: 100 });
         assert!(cut_everywhere(prepare, store, see) >= 3);
+    }
+
+    #[test]
+    fn numbers_written_by_hand() {
+        let numbers = Numbers { w: [12, 0, 0, 7, 0, 0, 0, 0], s: 281_474_976_710_654, ..Numbers::default() };
+        assert_eq!(written(&text(&numbers)), Ok(numbers));
+        assert_eq!(written("# spent\ns 281474976710654\n\nw 12 0 0 7 0 0 0 0\r\n"), Ok(numbers));
+        assert_eq!(written(""), Ok(Numbers::default()));
+        let max = Numbers { e: u64::MAX, ..Numbers::default() };
+        assert_eq!(written("e 18446744073709551615"), Ok(max));
+        for (bad, line) in [
+            ("e 1\nw 1 2 3\n", 2),
+            ("s\n", 1),
+            ("s 1 2\n", 1),
+            ("s x\n", 1),
+            ("n -1\n", 1),
+            ("n 18446744073709551616\n", 1),
+            ("x 1\n", 1),
+            ("s 1\n\ns 1\n", 3),
+            ("e 0\nsum 0\n", 2),
+            ("sum\n", 1),
+        ] {
+            assert_eq!(written(bad).expect_err(bad).0, line, "{bad}");
+        }
     }
 
     #[test]

@@ -1,6 +1,8 @@
 //! The numbers on the display in words: what each means and what to do. The program prints these sentences, and
 //! `docs/FITTER.md` has the same ones in its table; a test below holds the page to them.
 
+use std::fmt;
+
 /// A number of the display.
 #[derive(Clone, Copy, Debug, PartialEq, Eq)]
 pub struct Sentence {
@@ -11,6 +13,27 @@ pub struct Sentence {
     /// What to do.
     pub then: &'static str,
 }
+
+/// As the program prints it.
+impl fmt::Display for Sentence {
+    fn fmt(&self, to: &mut fmt::Formatter) -> fmt::Result {
+        write!(to, "{}, {}. {}", self.number, self.means, self.then)
+    }
+}
+
+/// 7 where a transaction is turned down: the first of its two causes.
+pub const FULL_OF_RECORDS: Sentence = Sentence {
+    number: 7,
+    means: "the box holds 128 records since its newest point",
+    then: "Make room with tidy, or set a point.",
+};
+
+/// 7 where a point is turned down: the second.
+pub const FULL_OF_POINTS: Sentence = Sentence {
+    number: 7,
+    means: "the box keeps 8 points",
+    then: "Make room with tidy, or make a checkpoint and truncate.",
+};
 
 /// Every number, in order.
 pub const SENTENCES: [Sentence; 15] = [
@@ -42,8 +65,8 @@ pub const SENTENCES: [Sentence; 15] = [
     },
     Sentence {
         number: 7,
-        means: "the box holds 128 records since its newest point, or 8 points",
-        then: "Set a point; where 8 points are kept, make a checkpoint and truncate.",
+        means: "the box holds 128 records since its newest point, or the box keeps 8 points",
+        then: "Make room with tidy, or set a point; with 8 points kept, make a checkpoint and truncate.",
     },
     Sentence {
         number: 8,
@@ -111,6 +134,16 @@ mod tests {
     fn numbers_are_1_to_15() {
         let numbers: Vec<u8> = SENTENCES.iter().map(|s| s.number).collect();
         assert_eq!(numbers, (1..=15).collect::<Vec<u8>>());
+    }
+
+    #[test]
+    fn the_row_of_7_has_both_causes() {
+        let row = sentence(7).expect("there");
+        assert_eq!(row.means, format!("{}, or {}", FULL_OF_RECORDS.means, FULL_OF_POINTS.means));
+        for cause in [FULL_OF_RECORDS, FULL_OF_POINTS] {
+            let by_hand = cause.then.strip_prefix("Make room with tidy, or ").expect("first the easy way");
+            assert!(row.then.contains(by_hand.trim_end_matches('.')), "{cause}");
+        }
     }
 
     #[test]

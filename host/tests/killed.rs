@@ -127,7 +127,7 @@ fn table(folder: &Path) -> Table {
     let text = whole(folder, "start\ntable --csv\n");
     let mut table = Table::new();
     for line in text.lines().skip(2) {
-        let f: Vec<i64> = line.split(',').map(|field| field.parse().expect("a number")).collect();
+        let f: Vec<i64> = line.split(',').take(6).map(|field| field.parse().expect("a number")).collect();
         table.insert(f[0] as u8, (f[1] as u8, f[2] as i32, f[3] as u64, f[4] as u8, f[5] as u64));
     }
     table

@@ -17,7 +17,9 @@ use paviluko_host::runner::{Moment, Runner, Stop};
 use paviluko_host::transaction::{self, Write as Entry};
 use paviluko_host::{LANES, METERS, Reading, Refusal, WRITES};
 
+use crate::colour::{Colours, Tone};
 use crate::screen;
+use crate::wrap::{INDENT, wrap};
 
 /// Transactions of a day.
 const DAY: u64 = 1500;
@@ -55,6 +57,10 @@ impl From<Fault> for Trouble {
     }
 }
 
+fn colours() -> Colours {
+    Colours::of(&io::stdout())
+}
+
 /// Something that is not as it should be.
 fn wrong<T>(what: impl fmt::Display) -> Result<T, Trouble> {
     Err(Trouble::Wrong(what.to_string()))
@@ -65,7 +71,7 @@ pub fn run(dir: Option<&Path>) -> io::Result<u8> {
     let place = match Place::new(dir) {
         Ok(place) => place,
         Err(fault) => {
-            writeln!(io::stderr(), "paviluko: {fault}")?;
+            crate::notice(Tone::Bad, format!("paviluko: {fault}"))?;
             return Ok(1);
         }
     };
@@ -73,7 +79,8 @@ pub fn run(dir: Option<&Path>) -> io::Result<u8> {
         Ok(()) => Ok(0),
         Err(Trouble::Unread(error)) => Err(error),
         Err(Trouble::Wrong(what)) => {
-            writeln!(io::stdout(), "\nTHE DEMONSTRATION FAILED: {what}")?;
+            let text = wrap(&format!("THE DEMONSTRATION FAILED: {what}"), INDENT);
+            writeln!(io::stdout(), "\n{}", colours().paint(Tone::Bad, text.trim_end()))?;
             Ok(1)
         }
     }
@@ -384,7 +391,7 @@ impl Demo {
                 let text = refusal.to_string();
                 let (means, then) = text.split_once(". ").unwrap_or((&text, ""));
                 self.say(&format!("{what}: refused: {means}."))?;
-                self.say(&format!("    {then}"))?;
+                self.say_under(then)?;
             }
             Err(stop) => return wrong(format!("{what}: {number} was expected, and not {stop}")),
             Ok(_) => return wrong(format!("{what} was taken")),
@@ -474,12 +481,23 @@ impl Demo {
     fn heading(&self, step: u32, text: &str) -> io::Result<()> {
         let mut out = io::stdout();
         let space = if step > 1 { "\n\n" } else { "" };
-        write!(out, "{space}{step} of 8  {text}")?;
+        let heading = colours().paint(Tone::Heading, &format!("{step} of 8  {text}"));
+        write!(out, "{space}{heading}")?;
         out.flush()
     }
 
     fn say(&self, text: &str) -> Result<(), Trouble> {
-        write!(io::stdout(), "\n    {text}").map_err(Trouble::from)
+        self.say_behind(INDENT, text)
+    }
+
+    /// Says more of what was said.
+    fn say_under(&self, text: &str) -> Result<(), Trouble> {
+        self.say_behind(2 * INDENT, text)
+    }
+
+    fn say_behind(&self, indent: usize, text: &str) -> Result<(), Trouble> {
+        let text = wrap(&format!("{:indent$}{text}", ""), 2 * INDENT);
+        write!(io::stdout(), "\n{}", text.trim_end()).map_err(Trouble::from)
     }
 
     /// Shows that something goes on.

@@ -1,153 +1,144 @@
-//! The fitter's bench: makes a box in a folder, runs it, and shows the main job.
+//! The fitter's bench: makes a box in a folder, runs it, prints its table, and shows the main job.
+//!
+//! `args` reads the command line. A session (`session`) has an answer (`answer`) for each command; `converse` reads the commands,
+//! at a terminal with an `editor`. What is printed fits the screen (`wrap`), and has colours on a terminal alone (`colour`).
 
+mod answer;
+mod args;
+mod colour;
+mod complete;
+mod converse;
 mod demo;
+mod editor;
+mod file;
+mod help;
+mod near;
 mod screen;
 mod session;
+mod stamps;
+mod terminal;
+mod wrap;
 
-use std::ffi::OsString;
+use std::fmt::Display;
 use std::fs::File;
-use std::io::{self, BufRead, BufReader, IsTerminal, Read, Write};
+use std::io::{self, BufReader, IsTerminal, Write};
 use std::path::Path;
 use std::process::ExitCode;
 
 use paviluko_host::files::{Disk, Fault, shown};
 use paviluko_host::folder::BoxFolder;
-use paviluko_host::identity;
 use paviluko_host::runner::Runner;
+use paviluko_host::{Numbers, identity, secret, vault};
 
+use args::{Wish, Wrong};
+use colour::{Colours, Tone};
 use session::Session;
-
-const USAGE: &str = "\
-paviluko: a submeter collector's box on the bench
-
-  paviluko new DIR             makes a box in the folder DIR: a new vault, a key, an empty card
-  paviluko run DIR [SCRIPT]    runs that box: reads commands from the terminal, from a pipe, or from the file SCRIPT
-  paviluko demo [DIR]          shows the main job on a new box (in DIR, or in a folder that is removed in the end)
-  paviluko --version           prints the library's edition and the hash of its sources
-  paviluko --help              prints this
-
-In a session, help lists the commands. The box's state is in memory only: when the session ends, however it ends, that is
-a power cut. The exit status is 0 if all went well, 1 if something was refused or failed, 2 for a wrong command line.
-";
-
-/// Longer lines of a script are refused.
-const LONGEST_LINE: u64 = 65_536;
 
 const FINE: u8 = 0;
 const FAILED: u8 = 1;
 const BAD_USAGE: u8 = 2;
 
 fn main() -> ExitCode {
-    let words: Vec<OsString> = std::env::args_os().skip(1).collect();
-    // A reader that went away (as `head` does) ends the program without a word.
-    ExitCode::from(command_line(&words).unwrap_or(FAILED))
+    let status = command_line().unwrap_or_else(|error| {
+        // A reader that went away (as `head` does) ends the program without a word.
+        if error.kind() != io::ErrorKind::BrokenPipe {
+            let _ = notice(Tone::Bad, format!("paviluko: nothing can be read or printed any more: {error}"));
+        }
+        FAILED
+    });
+    ExitCode::from(status)
 }
 
 /// Does what the command line says. The exit status; an error where nobody reads what is printed.
-fn command_line(words: &[OsString]) -> io::Result<u8> {
-    let name = words.first().map(|word| word.to_string_lossy().into_owned()).unwrap_or_default();
-    let rest: Vec<&Path> = words.iter().skip(1).map(Path::new).collect();
-    match (name.as_str(), rest.as_slice()) {
-        ("new", [dir]) => make(dir),
-        ("run", [dir]) => run(dir, None),
-        ("run", [dir, script]) => run(dir, Some(script)),
-        ("demo", []) => demo::run(None),
-        ("demo", [dir]) => demo::run(Some(dir)),
-        ("--version" | "-V" | "version", []) => {
-            io::stdout().write_all(identity::lines(identity::edition(), identity::sources()).as_bytes())?;
-            Ok(FINE)
-        }
-        ("--help" | "-h" | "help", []) => {
-            io::stdout().write_all(USAGE.as_bytes())?;
-            Ok(FINE)
-        }
-        _ => {
-            io::stderr().write_all(USAGE.as_bytes())?;
+fn command_line() -> io::Result<u8> {
+    if let Err(error) = secret::no_dumps() {
+        notice(Tone::Warning, format!("paviluko: if this program dies, its memory may be written to a file: {error}"))?;
+    }
+    match args::read(std::env::args_os().skip(1)) {
+        Ok(Wish::New { dir, vault }) => make(&dir, vault.as_deref()),
+        Ok(Wish::Run { dir, script }) => run(&dir, script.as_deref()),
+        Ok(Wish::Table { dir, csv }) => table(&dir, csv),
+        Ok(Wish::Demo { dir }) => demo::run(dir.as_deref()),
+        Ok(Wish::Help(command)) => print(&command.map_or(args::USAGE.to_string(), |command| command.help())),
+        Ok(Wish::Version) => print(&identity::lines(identity::edition(), identity::sources())),
+        Err(Wrong(what)) => {
+            notice(Tone::Plain, what)?;
             Ok(BAD_USAGE)
         }
     }
 }
 
+fn print(text: &str) -> io::Result<u8> {
+    io::stdout().write_all(text.as_bytes())?;
+    Ok(FINE)
+}
+
+/// Says something on standard error.
+pub fn notice(tone: Tone, text: impl Display) -> io::Result<()> {
+    let text = wrap::wrap(&text.to_string(), wrap::INDENT);
+    io::stderr().write_all(Colours::of(&io::stderr()).paint(tone, &text).as_bytes())
+}
+
+/// Says what is wrong with a box or a file.
+fn failed(what: impl Display) -> io::Result<u8> {
+    notice(Tone::Bad, format!("paviluko: {what}"))?;
+    Ok(FAILED)
+}
+
 /// `paviluko new`.
-fn make(dir: &Path) -> io::Result<u8> {
-    match BoxFolder::create(dir, Disk::Wait) {
-        Ok(()) => {
-            writeln!(io::stdout(), "{}: a new box with an empty card. Next: paviluko run {0}", shown(dir))?;
-            Ok(FINE)
-        }
-        Err(fault) => failed(&fault),
+fn make(dir: &Path, vault: Option<&Path>) -> io::Result<u8> {
+    let numbers = match vault.map(numbers).transpose() {
+        Ok(numbers) => numbers.unwrap_or_default(),
+        Err(why) => return failed(why),
+    };
+    match BoxFolder::create_with(dir, &numbers, Disk::Wait) {
+        Ok(()) => print(&format!("{}: a new box with an empty card. Next: paviluko run {0}\n", shown(dir))),
+        Err(fault) => failed(fault),
     }
+}
+
+/// The vault's numbers in a file that somebody wrote.
+fn numbers(path: &Path) -> Result<Numbers, String> {
+    let text = file::text(path).map_err(|fault| fault.to_string())?;
+    vault::written(&text).map_err(|(line, why)| format!("{}, line {line}: {why}. No box was made.", shown(path)))
 }
 
 /// `paviluko run`.
 fn run(dir: &Path, script: Option<&Path>) -> io::Result<u8> {
-    let runner = match Runner::open(dir, Disk::Wait) {
-        Ok(runner) => runner,
-        Err(fault) => return failed(&fault),
+    let mut session = match Runner::open(dir, Disk::Wait) {
+        Ok(runner) => Session::new(runner),
+        Err(fault) => return failed(fault),
     };
-    let session = Session::new(runner);
-    match script {
-        None => {
-            let prompt = io::stdin().is_terminal() && io::stdout().is_terminal();
-            converse(session, io::stdin().lock(), prompt)
-        }
+    let (typed, seen) = (io::stdin().is_terminal(), io::stdout().is_terminal());
+    let fine = match script {
         Some(path) => match File::open(path) {
-            Ok(file) => converse(session, BufReader::new(file), false),
-            Err(error) => failed(&Fault::unusable(path)(error)),
+            Ok(file) => converse::from_reader(&mut session, BufReader::new(file), Some(&format!("{}, ", shown(path))))?,
+            Err(error) => return failed(Fault::unusable(path)(error)),
         },
-    }
+        None if typed && seen => {
+            converse::at_terminal(&mut session, colour::capable())?;
+            // Somebody has read what was refused.
+            true
+        }
+        None => converse::from_reader(&mut session, io::stdin().lock(), (!typed).then_some(""))?,
+    };
+    Ok(if fine { FINE } else { FAILED })
 }
 
-/// Says what is wrong with a box or a file.
-fn failed(fault: &Fault) -> io::Result<u8> {
-    writeln!(io::stderr(), "paviluko: {fault}")?;
-    Ok(FAILED)
-}
-
-/// Reads commands and prints answers until the commands end.
-fn converse(mut session: Session, mut input: impl BufRead, prompt: bool) -> io::Result<u8> {
-    let mut out = io::stdout();
-    if prompt {
-        writeln!(out, "{}", session.greeting())?;
-    }
-    let mut status = FINE;
-    loop {
-        if prompt {
-            write!(out, "paviluko> ")?;
-            out.flush()?;
-        }
-        let Some(line) = next_line(&mut input)? else {
-            if prompt {
-                writeln!(out)?;
-            }
-            break;
-        };
-        let answer = match line {
-            Some(text) => session.command(&text),
-            None => session::Answer::failed(format!("a line of more than {LONGEST_LINE} bytes is no command")),
-        };
-        out.write_all(answer.text.as_bytes())?;
-        out.flush()?;
-        // At a terminal, somebody has read the refusal.
-        if answer.failed && !prompt {
-            status = FAILED;
-        }
-        if answer.quit {
-            break;
-        }
-    }
-    Ok(status)
-}
-
-/// The next line, or nothing at the end; a line that is too long is read over and is no text.
-fn next_line(input: &mut impl BufRead) -> io::Result<Option<Option<String>>> {
-    let mut bytes = Vec::new();
-    if input.by_ref().take(LONGEST_LINE).read_until(b'\n', &mut bytes)? == 0 {
-        return Ok(None);
-    }
-    if bytes.len() as u64 == LONGEST_LINE && bytes.last() != Some(&b'\n') {
-        input.skip_until(b'\n')?;
-        return Ok(Some(None));
-    }
-    Ok(Some(Some(String::from_utf8_lossy(&bytes).into_owned())))
+/// `paviluko table`: the table on standard output, all else on standard error.
+fn table(dir: &Path, csv: bool) -> io::Result<u8> {
+    let mut runner = match Runner::open(dir, Disk::Wait) {
+        Ok(runner) => runner,
+        Err(fault) => return failed(fault),
+    };
+    let card = format!("Box {}, card {}.", screen::near(runner.folder().path()), screen::card(&runner));
+    notice(Tone::Plain, card)?;
+    let started = match runner.start() {
+        Ok(started) => started,
+        Err(stop) => return failed(stop),
+    };
+    notice(Tone::Plain, session::in_service(&runner, &started))?;
+    let readings = runner.collector().map(|collector| collector.readings()).unwrap_or_default();
+    session::table(&readings, csv).print(&mut io::stdout(), Colours::of(&io::stdout()))?;
+    Ok(FINE)
 }

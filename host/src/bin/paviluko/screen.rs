@@ -3,10 +3,28 @@
 use std::fmt::Write;
 use std::path::Path;
 
+use paviluko_host::card::Card;
 use paviluko_host::files::shown;
 use paviluko_host::runner::Runner;
 use paviluko_host::words::medium;
 use paviluko_host::{Collector, LANES, POINTS, RECORDS, Reading};
+
+use crate::wrap::{WIDTH, wrap};
+
+/// Where a status line's text begins.
+const COLUMN: usize = 11;
+/// E, S and N in few words.
+const ABOUT_BOX: [(&str, &str); 3] = [
+    ("E", "the epoch: a start that gives numbers up begins the next one"),
+    ("S", "the version of the checkpoint in use"),
+    ("N", "the seal number of the last checkpoint: none is used twice"),
+];
+/// W, V and R in few words; at most 40 columns.
+const ABOUT_LANES: [&str; 3] = [
+    "W  numbers handed out in the lane",
+    "V  of these visible, or given up",
+    "R  of these truncated: in the checkpoint",
+];
 
 /// The caretaker's table, in aligned columns.
 pub fn table(readings: &[(u8, Reading)]) -> String {
@@ -30,38 +48,57 @@ pub fn table(readings: &[(u8, Reading)]) -> String {
     aligned(&rows, words)
 }
 
-/// The table as a plain list.
+/// The table as a plain list. A stamp behind the year 9999 has no `utc`.
 pub fn table_csv(readings: &[(u8, Reading)]) -> String {
-    let mut out = String::from("meter,code,reading,stamp,lane,number\n");
+    let mut out = String::from("meter,code,reading,stamp,lane,number,medium,unit,utc\n");
     for (meter, r) in readings {
-        let _ = writeln!(out, "{meter},{},{},{},{},{}", r.code, r.reading, r.stamp, r.lane, r.number);
+        let (medium, unit) = medium(r.code);
+        let utc = moment(r.stamp).map_or(String::new(), |(date, time)| format!("{date}T{time}Z"));
+        let Reading { stamp, lane, number, code, reading } = r;
+        let _ = writeln!(out, "{meter},{code},{reading},{stamp},{lane},{number},{medium},{unit},{utc}");
     }
     out
 }
 
-/// The 27 numbers, the phase, the due store, records and points.
-pub fn status(runner: &Runner) -> String {
+/// A box's status: where the box and its card are, what the box is at, and the vault's 27 numbers with what they mean. The lines
+/// above the lanes, and the lanes.
+pub fn status(runner: &Runner) -> (String, String) {
     let mut out = String::new();
-    let _ = writeln!(out, "box        {}", near(runner.folder().path()));
-    let _ = writeln!(out, "card       {}", card(runner));
+    let mut line = |name: &str, text: &str| out.push_str(&wrap(&format!("{name:<COLUMN$}{text}"), COLUMN));
+    line("box", &near(runner.folder().path()));
+    line("card", &card_folders(runner));
     let collector = runner.collector();
-    let phase = collector.map_or("no power".to_string(), |c| c.phase().to_string());
-    let _ = writeln!(out, "phase      {phase}");
+    line("phase", &collector.map_or("no power".to_string(), |c| c.phase().to_string()));
     if let Some(collector) = collector {
-        let _ = writeln!(out, "due store  {}", collector.due());
-        let _ = writeln!(out, "records    {} of {RECORDS} since the newest point", collector.records());
-        let _ = writeln!(out, "points     {}", points(collector));
+        line("due store", &collector.due().to_string());
+        line("records", &format!("{} of {RECORDS} since the newest point", collector.records()));
+        line("points", &points(collector));
     }
     if let Some((store, moment)) = runner.cut_set() {
-        let _ = writeln!(out, "plug       to be pulled {moment} store {store} from here");
+        line("plug", &format!("to be pulled {moment} store {store} from here"));
     }
     let numbers = runner.numbers();
-    let _ = writeln!(out, "vault      E {}, S {}, N {}", numbers.e, numbers.s, numbers.n);
+    let values = [numbers.e, numbers.s, numbers.n].map(|number| number.to_string());
+    let widest = values.iter().map(String::len).max().unwrap_or(0);
+    for (at, ((name, about), value)) in ABOUT_BOX.iter().zip(&values).enumerate() {
+        line(if at == 0 { "vault" } else { "" }, &format!("{name} {value:>widest$}   {about}"));
+    }
+    (out, lanes(runner))
+}
+
+/// W, V and R of the lanes, with what they mean beside them.
+fn lanes(runner: &Runner) -> String {
+    let numbers = runner.numbers();
     let heading = ["lane", "W", "V", "R"].map(String::from);
     let lanes = (0..LANES).map(|lane| [lane as u64, numbers.w[lane], numbers.v[lane], numbers.r[lane]]);
     let rows: Vec<[String; 4]> =
         std::iter::once(heading).chain(lanes.map(|row| row.map(|number| number.to_string()))).collect();
-    out + &aligned(&rows, [false; 4])
+    let text = aligned(&rows, [false; 4]);
+    let about = std::iter::once("").chain(ABOUT_LANES).chain(std::iter::repeat(""));
+    text.lines().zip(about).fold(String::new(), |mut out, (row, about)| {
+        let _ = writeln!(out, "{}", format!("{row}   {about}").trim_end());
+        out
+    })
 }
 
 /// The card that is in, and what it holds.
@@ -70,6 +107,18 @@ pub fn card(runner: &Runner) -> String {
     match seen {
         Ok((folder, held)) => {
             format!("{folder}: {}, {}", count(held.records, "record"), count(held.checkpoints, "checkpoint"))
+        }
+        Err(fault) => fault.to_string(),
+    }
+}
+
+/// The same, with where on the card it is.
+fn card_folders(runner: &Runner) -> String {
+    let seen = runner.card().and_then(|card| Ok((near(card.folder()), card.held()?, card.records_folder()?)));
+    match seen {
+        Ok((folder, held, records_folder)) => {
+            let (records, checkpoints) = (count(held.records, "record"), count(held.checkpoints, "checkpoint"));
+            format!("{folder}: {records} in {records_folder}, {checkpoints} in {}", Card::CHECKPOINTS)
         }
         Err(fault) => fault.to_string(),
     }
@@ -104,6 +153,9 @@ fn aligned<const N: usize>(rows: &[[String; N]], words: [bool; N]) -> String {
     let mut out = String::new();
     let width = |column: usize| rows.iter().map(|row| row[column].len()).max().unwrap_or(0);
     let widths: [usize; N] = std::array::from_fn(width);
+    // Two spaces stand between columns; one, where that would be too wide.
+    let wide = widths.iter().sum::<usize>() + 2 * (N - 1) > WIDTH;
+    let gap = if wide { " " } else { "  " };
     for row in rows {
         let cells: Vec<String> = (0..N)
             .map(|c| {
@@ -114,19 +166,25 @@ fn aligned<const N: usize>(rows: &[[String; N]], words: [bool; N]) -> String {
                 }
             })
             .collect();
-        let _ = writeln!(out, "{}", cells.join("  ").trim_end());
+        let _ = writeln!(out, "{}", cells.join(gap).trim_end());
     }
     out
 }
 
 /// A stamp as a date and time of day, UTC; the years to 9999.
 pub fn utc(stamp: u64) -> String {
+    moment(stamp).map_or("after 9999".to_string(), |(date, time)| format!("{date} {time}"))
+}
+
+/// The same in two parts; nothing for a later year.
+fn moment(stamp: u64) -> Option<(String, String)> {
     if stamp >= 253_402_300_800 {
-        return "after 9999".to_string();
+        return None;
     }
     let (day, second) = (stamp / 86_400, stamp % 86_400);
     let (year, month, day) = date(day);
-    format!("{year:04}-{month:02}-{day:02} {:02}:{:02}:{:02}", second / 3600, second / 60 % 60, second % 60)
+    let time = format!("{:02}:{:02}:{:02}", second / 3600, second / 60 % 60, second % 60);
+    Some((format!("{year:04}-{month:02}-{day:02}"), time))
 }
 
 /// Year, month and day of a day counted from 1 January 1970. Years begin in March here, so that a leap day is the last.
@@ -144,6 +202,7 @@ fn date(day: u64) -> (u64, u64, u64) {
 #[cfg(test)]
 mod tests {
     use super::*;
+    use paviluko_host::COUNTER_MAX;
 
     #[test]
     fn dates() {
@@ -168,5 +227,25 @@ meter  medium      reading  unit  stamp  UTC                  lane  number
   255  heat         123456  kWh       1  1970-01-01 00:00:01     7       3
 ";
         assert_eq!(table(&readings), shown);
+        let list = "\
+meter,code,reading,stamp,lane,number,medium,unit,utc
+7,1,-5,60,0,12,cold water,l,1970-01-01T00:01:00Z
+255,3,123456,1,7,3,heat,kWh,1970-01-01T00:00:01Z
+";
+        assert_eq!(table_csv(&readings), list);
+    }
+
+    #[test]
+    fn large_numbers_fit_the_screen() {
+        let reading = |stamp| Reading { stamp, lane: 7, number: COUNTER_MAX, code: 1, reading: i32::MIN };
+        let readings = [(254, reading(1)), (255, reading(u64::MAX))];
+        for line in (table(&readings) + &table_csv(&readings)).lines() {
+            assert!(line.len() <= WIDTH, "{line}");
+        }
+        assert!(table_csv(&readings).ends_with(",cold water,l,\n"));
+        let lanes = 4 + 3 * (2 + COUNTER_MAX.to_string().len());
+        assert!(ABOUT_LANES.iter().all(|about| lanes + 3 + about.len() <= WIDTH));
+        let numbers = COLUMN + 2 + COUNTER_MAX.to_string().len() + 3;
+        assert!(ABOUT_BOX.iter().all(|(_, about)| numbers + about.len() <= WIDTH));
     }
 }

@@ -1,89 +1,30 @@
 //! A session: one command, one answer.
 
-use std::fs::File;
-use std::io::Read;
-use std::path::{Path, PathBuf};
-use std::time::{SystemTime, UNIX_EPOCH};
+use std::path::Path;
 
 use paviluko_host::card::Card;
-use paviluko_host::files::{Fault, clean, shown};
-use paviluko_host::runner::{Moment, Runner, Stop};
+use paviluko_host::files::{clean, shown};
+use paviluko_host::runner::{Moment, Numbered, Runner, Started, Stop, Tidied};
 use paviluko_host::transaction::{self, Batch};
-use paviluko_host::{Phase, Refusal};
+use paviluko_host::{Phase, Reading, words};
 
-use crate::screen;
+use crate::answer::{Answer, stopped};
+use crate::args::no_name;
+use crate::colour::Tone;
+use crate::{file, help, screen, stamps};
 
-const HELP: &str = "\
-start                                   loads and recovers the box, until it is in service
-take LANE STAMP METER=CODE:READING ..   takes a transaction of 1 to 16 readings and makes it visible
-                                        STAMP is in seconds, or now; codes: 1 cold water, 2 warm water (l),
-                                        3 heat, 4 cooling (kWh)
-take --csv FILE [--tidy]                takes the lines lane,stamp,meter,code,reading of a file; with --tidy, sets a
-                                        point, makes a checkpoint and truncates whenever 128 records are held
-accept LANE STAMP METER=CODE:READING .. the first half of take: the record is on the card, and not visible yet
-commit POSITION                         the second half: makes the record at a position of the card visible
-table [--csv]                           the latest reading of every meter
-point [POSITION]                        sets a point, behind all records
-checkpoint                              seals the table into a checkpoint on the card
-truncate [POSITION]                     gives up the records below the newest point that a checkpoint covers
-status                                  the vault's 27 numbers, phase, due store, records, points, card
-swap-card DIR2                          lifts the card out and puts the card in the folder DIR2 in
-swap-card --new DIR2                    the same with a new, empty card
-copy-card DIR2                          copies the card that is in to the folder DIR2
-cut                                     pulls the plug now
-cut before N, cut after N               pulls it before or after the Nth store from here
-help, quit
-";
+/// So many warnings of a file are printed, and the rest counted.
+const MOST_WARNINGS: usize = 5;
 
-/// Where the explanations begin in a line of the help.
-const COLUMN: usize = 40;
-
-/// A CSV file is read so far.
-const LONGEST_FILE: u64 = 64 << 20;
-
-/// The answer to a command.
-#[derive(Debug, Default)]
-pub struct Answer {
-    /// Whole lines.
-    pub text: String,
-    /// Something was refused or failed.
-    pub failed: bool,
-    /// The session ends.
-    pub quit: bool,
-}
-
-impl Answer {
-    fn fine(text: impl Into<String>) -> Answer {
-        Answer { text: lines(text.into()), ..Answer::default() }
-    }
-
-    /// A refusal or a failure.
-    pub fn failed(text: impl Into<String>) -> Answer {
-        Answer { text: lines(text.into()), failed: true, quit: false }
-    }
-
-    /// A wrong command.
-    fn wrong(how: &str) -> Answer {
-        Answer::failed(format!("wrong command: write {how}"))
-    }
-}
-
-/// A cut that was asked for is no failure.
-impl From<Stop> for Answer {
-    fn from(stop: Stop) -> Answer {
-        match stop {
-            Stop::Cut { .. } => Answer::fine(stop.to_string()),
-            _ => Answer::failed(stop.to_string()),
-        }
-    }
-}
-
-/// Text with an end of line.
-fn lines(mut text: String) -> String {
-    if !text.is_empty() && !text.ends_with('\n') {
-        text.push('\n');
-    }
-    text
+/// What becomes of a transaction.
+#[derive(Clone, Copy, PartialEq, Eq)]
+enum Way {
+    /// It is made visible, and room for it if need be.
+    Take,
+    /// It is made visible.
+    TakeOnly,
+    /// Its record is written.
+    Accept,
 }
 
 /// A session with a box.
@@ -97,9 +38,9 @@ impl Session {
         Session { runner }
     }
 
-    /// What stands above the first prompt.
+    /// The box, and the card in it.
     pub fn greeting(&self) -> String {
-        format!("Box {}, card {}.\nIt has no power: type start, or help.", self.name(), screen::card(&self.runner))
+        format!("Box {}, card {}.", screen::near(self.runner.folder().path()), screen::card(&self.runner))
     }
 
     /// Does a command. An empty line and a line that begins with # have no answer.
@@ -109,45 +50,49 @@ impl Session {
         if name.starts_with('#') {
             return Answer::default();
         }
+        if let Some(answer) = help::bad_option(name, rest) {
+            return answer;
+        }
         let done = match (name, rest) {
             ("start", []) => self.start(),
-            ("take", ["--csv", file]) => self.take_file(Path::new(file), false),
-            ("take", ["--csv", file, "--tidy"] | ["--tidy", "--csv", file]) => self.take_file(Path::new(file), true),
-            ("take", [lane, stamp, writes @ ..]) if !writes.is_empty() => self.take(lane, stamp, writes, true),
-            ("accept", [lane, stamp, writes @ ..]) if !writes.is_empty() => self.take(lane, stamp, writes, false),
+            ("take", ["--csv", file]) => self.take_file(file, Way::Take),
+            ("take", ["--csv", file, "--no-tidy"] | ["--no-tidy", "--csv", file]) => {
+                self.take_file(file, Way::TakeOnly)
+            }
+            ("take", ["--no-tidy", lane, stamp, writes @ ..]) if !writes.is_empty() => {
+                self.take(lane, stamp, writes, Way::TakeOnly)
+            }
+            ("take", [lane, stamp, writes @ ..]) if !writes.is_empty() => self.take(lane, stamp, writes, Way::Take),
+            ("accept", [lane, stamp, writes @ ..]) if !writes.is_empty() => self.take(lane, stamp, writes, Way::Accept),
             ("commit", [at]) => self.commit(at),
-            ("table", []) => self.table(screen::table),
-            ("table", ["--csv"]) => self.table(screen::table_csv),
+            ("table", []) => self.table(false),
+            ("table", ["--csv"]) => self.table(true),
+            ("tidy", []) => self.tidy(),
             ("point", at @ ([] | [_])) => self.point(at.first().copied()),
             ("checkpoint", []) => self.checkpoint(),
             ("truncate", at @ ([] | [_])) => self.truncate(at.first().copied()),
-            ("status", []) => Ok(Answer::fine(screen::status(&self.runner))),
-            ("swap-card", ["--new", dir]) => self.new_card(Path::new(dir)),
-            ("swap-card", [dir]) if !dir.starts_with("--") => self.swap_card(Path::new(dir)),
-            ("copy-card", [dir]) if !dir.starts_with("--") => self.copy_card(Path::new(dir)),
+            ("status", []) => Ok(self.status()),
+            ("swap-card", ["--new", dir]) => self.with_folder(dir, Session::new_card),
+            ("swap-card", [dir]) => self.with_folder(dir, Session::swap_card),
+            ("copy-card", [dir]) => self.with_folder(dir, Session::copy_card),
             ("cut", []) => Ok(self.cut()),
             ("cut", ["before", store]) => Ok(self.cut_at(store, Moment::Before)),
             ("cut", ["after", store]) => Ok(self.cut_at(store, Moment::After)),
-            ("help", []) => Ok(Answer::fine(HELP)),
-            ("quit" | "exit", []) => Ok(Answer { quit: true, ..Answer::default() }),
-            _ => Ok(wrong(name)),
+            ("help", []) => Ok(Answer::fine(help::all())),
+            ("help", [command]) => Ok(help::of(command)),
+            ("quit" | "exit", []) => Ok(Answer::quit()),
+            _ => Ok(help::wrong(name)),
         };
         done.unwrap_or_else(Answer::from)
     }
 
     fn start(&mut self) -> Result<Answer, Stop> {
         let started = self.runner.start()?;
-        let meters = self.runner.collector().map_or(0, |c| c.readings().len());
-        let records = screen::count(started.records, "record");
-        let meters = screen::count(meters, "meter");
-        Ok(Answer::fine(format!(
-            "in service after {} stores; {records} read from the card, {meters} in the table",
-            started.stores
-        )))
+        Ok(Answer::fine(in_service(&self.runner, &started)))
     }
 
-    /// Takes a transaction, or accepts it only.
-    fn take(&mut self, lane: &str, stamp: &str, writes: &[&str], commit: bool) -> Result<Answer, Stop> {
+    /// Takes a transaction in a command's words.
+    fn take(&mut self, lane: &str, stamp: &str, writes: &[&str], way: Way) -> Result<Answer, Stop> {
         let Some(lane) = transaction::lane(lane) else { return Ok(Answer::wrong("the lane as a number, 0 to 7")) };
         let Some(stamp) = seconds(stamp) else { return Ok(Answer::wrong("the stamp in seconds, or now")) };
         let mut list = Vec::new();
@@ -159,15 +104,72 @@ impl Session {
                 }
             }
         }
-        let bytes = transaction::bytes(stamp, &list);
-        let (done, numbered) = if commit {
-            ("visible", self.runner.take(lane, &bytes)?)
-        } else {
-            ("accepted, not visible", self.runner.accept(lane, &bytes)?)
+        let batch = Batch { line: 0, lane, stamp, writes: list };
+        let warnings = self.warnings(&batch);
+        let (numbered, tidied) = match self.take_batch(&batch, way) {
+            Ok(taken) => taken,
+            Err(stop) => return Ok(stopped(stop, &words::FULL_OF_RECORDS)),
         };
-        let (number, position) = (numbered.number, numbered.position);
-        let readings = screen::count(list.len(), "reading");
-        Ok(Answer::fine(format!("{done}: lane {lane}, number {number}, {readings}, record at position {position}")))
+        let done = if way == Way::Accept { "accepted, not visible" } else { "visible" };
+        let readings = screen::count(batch.writes.len(), "reading");
+        let Numbered { number, position, .. } = numbered;
+        let text = format!("{done}: lane {lane}, number {number}, {readings}, record at position {position}");
+        let mut answer = Answer::fine(text);
+        if let Some(tidied) = tidied {
+            answer = answer.and(Tone::Plain, format!("room was made first: {}", made(&tidied)));
+        }
+        Ok(warnings.iter().fold(answer, |answer, text| answer.and(Tone::Warning, format!("warning: {text}"))))
+    }
+
+    /// Takes the transactions of a file, until one is refused.
+    fn take_file(&mut self, name: &str, way: Way) -> Result<Answer, Stop> {
+        let path = Path::new(name);
+        if let Some(why) = no_name(path) {
+            return Ok(Answer::failed(format!("wrong command: {why}")));
+        }
+        let text = file::text(path)?;
+        let batches = match transaction::batches(&text) {
+            Ok(batches) => batches,
+            Err(bad) => {
+                let why = format!("{}, line {}: {}. Nothing was taken.", shown(path), bad.line, bad.why);
+                return Ok(Answer::failed(why));
+            }
+        };
+        let (mut readings, mut rooms, mut warnings) = (0, 0, Vec::new());
+        for (done, batch) in batches.iter().enumerate() {
+            let odd = self.warnings(batch);
+            match self.take_batch(batch, way) {
+                Ok((_, tidied)) => rooms += usize::from(tidied.is_some()),
+                Err(stop) => {
+                    let before = screen::count(done, "transaction");
+                    let place = format!("{}, line {}, after {before}: ", shown(path), batch.line);
+                    return Ok(warned(stopped(stop, &words::FULL_OF_RECORDS).at(&place), &warnings));
+                }
+            }
+            warnings.extend(odd.into_iter().map(|text| format!("line {}: {text}", batch.line)));
+            readings += batch.writes.len();
+        }
+        let mut said =
+            format!("visible: {}, {}", screen::count(batches.len(), "transaction"), screen::count(readings, "reading"));
+        if rooms > 0 {
+            said += &format!("; room was made {}", screen::count(rooms, "time"));
+        }
+        Ok(warned(Answer::fine(said), &warnings))
+    }
+
+    /// Takes a transaction; and what was done to make room for it.
+    fn take_batch(&mut self, batch: &Batch, way: Way) -> Result<(Numbered, Option<Tidied>), Stop> {
+        let bytes = transaction::bytes(batch.stamp, &batch.writes);
+        match way {
+            Way::Take => self.runner.take_tidy(batch.lane, &bytes),
+            Way::TakeOnly => Ok((self.runner.take(batch.lane, &bytes)?, None)),
+            Way::Accept => Ok((self.runner.accept(batch.lane, &bytes)?, None)),
+        }
+    }
+
+    /// What is odd about a transaction that is not taken yet.
+    fn warnings(&self, batch: &Batch) -> Vec<String> {
+        stamps::odd(self.runner.collector(), batch.stamp, &batch.writes, stamps::now())
     }
 
     fn commit(&mut self, at: &str) -> Result<Answer, Stop> {
@@ -176,54 +178,25 @@ impl Session {
         Ok(Answer::fine(format!("visible: the record at position {at}")))
     }
 
-    fn take_file(&mut self, path: &Path, tidy: bool) -> Result<Answer, Stop> {
-        let text = read_text(path)?;
-        let batches = match transaction::batches(&text) {
-            Ok(batches) => batches,
-            Err(bad) => {
-                let why = format!("{}, line {}: {}. Nothing was taken.", shown(path), bad.line, bad.why);
-                return Ok(Answer::failed(why));
-            }
-        };
-        let mut readings = 0;
-        for (done, batch) in batches.iter().enumerate() {
-            if let Err(stop) = self.take_batch(batch, tidy) {
-                let mut answer = Answer::from(stop);
-                let before = screen::count(done, "transaction");
-                answer.text = format!("{}, line {}, after {before}: {}", shown(path), batch.line, answer.text);
-                return Ok(answer);
-            }
-            readings += batch.writes.len();
-        }
-        let all = screen::count(batches.len(), "transaction");
-        Ok(Answer::fine(format!("visible: {all}, {}", screen::count(readings, "reading"))))
-    }
-
-    /// Takes a transaction of a file; a full box is made room in, where that is wanted.
-    fn take_batch(&mut self, batch: &Batch, tidy: bool) -> Result<(), Stop> {
-        let bytes = transaction::bytes(batch.stamp, &batch.writes);
-        match self.runner.take(batch.lane, &bytes) {
-            Err(Stop::Refused(Refusal { number: 7, .. })) if tidy => {
-                self.runner.point(None)?;
-                self.runner.checkpoint()?;
-                self.runner.truncate(None)?;
-                self.runner.take(batch.lane, &bytes).map(|_| ())
-            }
-            other => other.map(|_| ()),
-        }
-    }
-
-    fn table(&mut self, show: impl Fn(&[(u8, paviluko_host::Reading)]) -> String) -> Result<Answer, Stop> {
+    fn table(&mut self, csv: bool) -> Result<Answer, Stop> {
         let collector = self.runner.collector().ok_or(Stop::Off)?;
         if collector.phase() == Phase::Cold {
             return Ok(Answer::failed("there is no table: the box is not in service"));
         }
-        Ok(Answer::fine(show(&collector.readings())))
+        Ok(table(&collector.readings(), csv))
+    }
+
+    fn tidy(&mut self) -> Result<Answer, Stop> {
+        let tidied = self.runner.tidy()?;
+        Ok(Answer::fine(format!("room was made: {}", made(&tidied))))
     }
 
     fn point(&mut self, at: Option<&str>) -> Result<Answer, Stop> {
         let Some(at) = position(at) else { return Ok(Answer::wrong("the position as a number")) };
-        Ok(Answer::fine(format!("point set at {}", self.runner.point(at)?)))
+        Ok(match self.runner.point(at) {
+            Ok(at) => Answer::fine(format!("point set at {at}")),
+            Err(stop) => stopped(stop, &words::FULL_OF_POINTS),
+        })
     }
 
     fn checkpoint(&mut self) -> Result<Answer, Stop> {
@@ -240,6 +213,24 @@ impl Session {
         let at = self.runner.truncate(at)?;
         let deleted = before.saturating_sub(self.runner.card()?.held()?.records);
         Ok(Answer::fine(format!("truncated at {at}: {} deleted from the card", screen::count(deleted, "record"))))
+    }
+
+    fn status(&self) -> Answer {
+        let (above, lanes) = screen::status(&self.runner);
+        let (heading, rows) = lanes.split_at(lanes.find('\n').map_or(0, |end| end + 1));
+        Answer::fine(above).and(Tone::Heading, heading).and(Tone::Plain, rows)
+    }
+
+    /// Does something with a folder, unless its name is refused.
+    fn with_folder(
+        &mut self,
+        name: &str,
+        does: impl FnOnce(&mut Session, &Path) -> Result<Answer, Stop>,
+    ) -> Result<Answer, Stop> {
+        match no_name(Path::new(name)) {
+            Some(why) => Ok(Answer::failed(format!("wrong command: {why}"))),
+            None => does(self, Path::new(name)),
+        }
     }
 
     fn swap_card(&mut self, dir: &Path) -> Result<Answer, Stop> {
@@ -274,20 +265,41 @@ impl Session {
             _ => Answer::wrong("the store as a number from 1 on"),
         }
     }
-
-    fn name(&self) -> String {
-        screen::near(self.runner.folder().path())
-    }
 }
 
-/// A command that is none, or is not written as it should be.
-fn wrong(name: &str) -> Answer {
-    let same = |line: &&str| line.split_whitespace().next().is_some_and(|first| first.trim_end_matches(',') == name);
-    let ways: Vec<&str> = HELP.lines().filter(same).map(|line| line.get(..COLUMN).unwrap_or(line).trim_end()).collect();
-    if ways.is_empty() {
-        return Answer::failed(format!("unknown command: {}; help lists them", clean(name)));
+/// What a start came to.
+pub fn in_service(runner: &Runner, started: &Started) -> String {
+    let meters = runner.collector().map_or(0, |c| c.readings().len());
+    let records = screen::count(started.records, "record");
+    let meters = screen::count(meters, "meter");
+    format!("in service after {} stores; {records} read from the card, {meters} in the table", started.stores)
+}
+
+/// The table, in columns or as a list.
+pub fn table(readings: &[(u8, Reading)], csv: bool) -> Answer {
+    if csv {
+        return Answer::fine(screen::table_csv(readings));
     }
-    Answer::wrong(&ways.join(", or "))
+    let text = screen::table(readings);
+    let (heading, rows) = text.split_at(text.find('\n').map_or(0, |end| end + 1));
+    Answer::default().and(Tone::Heading, heading).and(Tone::Plain, rows)
+}
+
+/// What making room came to.
+fn made(tidied: &Tidied) -> String {
+    let Tidied { point, version, deleted } = tidied;
+    let deleted = screen::count(*deleted, "record");
+    format!("point set at {point}, checkpoint of version {version}, {deleted} deleted from the card")
+}
+
+/// An answer with the first warnings of a file, and how many more there are.
+fn warned(answer: Answer, warnings: &[String]) -> Answer {
+    let shown = warnings.iter().take(MOST_WARNINGS);
+    let answer = shown.fold(answer, |answer, text| answer.and(Tone::Warning, format!("warning: {text}")));
+    match warnings.len().saturating_sub(MOST_WARNINGS) {
+        0 => answer,
+        more => answer.and(Tone::Warning, format!("warning: {} more of this kind", more)),
+    }
 }
 
 /// A position, if one is given; nothing for what is no number.
@@ -301,15 +313,7 @@ fn position(word: Option<&str>) -> Option<Option<u64>> {
 /// A stamp: seconds, or the clock's.
 fn seconds(word: &str) -> Option<u64> {
     match word {
-        "now" => Some(SystemTime::now().duration_since(UNIX_EPOCH).map_or(0, |since| since.as_secs())),
+        "now" => Some(stamps::now()),
         _ => word.parse().ok(),
     }
-}
-
-/// A file's text.
-fn read_text(path: &Path) -> Result<String, Fault> {
-    let mut bytes = Vec::new();
-    let read = File::open(path).and_then(|file| file.take(LONGEST_FILE).read_to_end(&mut bytes));
-    read.map_err(Fault::unusable(path))?;
-    String::from_utf8(bytes).map_err(|_| Fault::Damaged { path: PathBuf::from(path), why: "is not a text" })
 }

@@ -1,0 +1,370 @@
+//! The command line: what is wanted, or what is wrong with it.
+
+use std::ffi::OsString;
+use std::path::{Path, PathBuf};
+
+use lexopt::{Arg, Parser};
+use paviluko_host::files::{clean, shown};
+
+use crate::near;
+
+pub const USAGE: &str = "\
+paviluko: a submeter collector's box on the bench
+
+  paviluko new [--vault FILE] DIR   makes a box in the folder DIR: a vault, a key, an empty card
+  paviluko run DIR [SCRIPT]         runs that box: commands from the terminal, a pipe or a file
+  paviluko table DIR [--csv]        starts that box and prints its table of latest readings
+  paviluko demo [DIR]               shows the main job on a new box, in DIR or a passing folder
+  paviluko --version                prints the library's edition and the hash of its sources
+  paviluko --help                   prints this; behind a command, what that command does
+
+In a session, help lists the commands. The box's state is in memory only: when the session ends,
+however it ends, that is a power cut. The exit status is 0 if all went well, 1 if something was
+refused or failed, 2 for a wrong command line.
+";
+
+const NEW: &str = "\
+Makes a box in the folder DIR, which is not there yet or is empty: a vault whose numbers are 0, a
+key made at random, an empty card.
+
+  --vault FILE   takes the vault's numbers from FILE, to see what a box says whose counters are
+                 spent (8) or cannot be right (2). FILE has lines as DIR/vault has them: w, v and
+                 r with 8 numbers, e, s and n with one. What is left out is 0.
+";
+
+const RUN: &str = "\
+Runs the box in the folder DIR. It has no power yet: start is the first command, and help lists
+them all. Commands come from the terminal, from a pipe, or from the file SCRIPT; of a script, a
+refusal names the line. The end of the session is a power cut. From a pipe or a script, the exit
+status is 1 if anything was refused or failed.
+";
+
+const TABLE: &str = "\
+Starts the box in the folder DIR, as start does in a session, and prints the latest reading of every
+meter. Only the table goes to standard output; what else there is to say goes to standard error.
+
+  --csv   prints it as meter,code,reading,stamp,lane,number,medium,unit,utc
+";
+
+const DEMO: &str = "\
+Shows the main job on a new box and checks it: a day's readings, a checkpoint and a truncation, the
+plug pulled before and after every store, old cards put in and refused. The box and its cards are
+made in the folder DIR, which is not there yet, or in a folder that is removed in the end.
+";
+
+/// A command of the command line.
+#[derive(Clone, Copy, Debug, PartialEq, Eq)]
+pub enum Command {
+    New,
+    Run,
+    Table,
+    Demo,
+}
+
+const COMMANDS: [Command; 4] = [Command::New, Command::Run, Command::Table, Command::Demo];
+/// All words that can stand first.
+const WORDS: [&str; 6] = ["new", "run", "table", "demo", "help", "version"];
+
+impl Command {
+    fn of(word: &str) -> Option<Command> {
+        COMMANDS.into_iter().find(|command| command.name() == word)
+    }
+
+    fn name(self) -> &'static str {
+        match self {
+            Command::New => "new",
+            Command::Run => "run",
+            Command::Table => "table",
+            Command::Demo => "demo",
+        }
+    }
+
+    /// How it is written.
+    fn usage(self) -> &'static str {
+        match self {
+            Command::New => "paviluko new [--vault FILE] DIR",
+            Command::Run => "paviluko run DIR [SCRIPT]",
+            Command::Table => "paviluko table DIR [--csv]",
+            Command::Demo => "paviluko demo [DIR]",
+        }
+    }
+
+    /// What it does.
+    pub fn help(self) -> String {
+        let text = match self {
+            Command::New => NEW,
+            Command::Run => RUN,
+            Command::Table => TABLE,
+            Command::Demo => DEMO,
+        };
+        format!("{}\n\n{text}", self.usage())
+    }
+
+    /// Its option, and whether that takes a word.
+    fn option(self) -> Option<(&'static str, bool)> {
+        match self {
+            Command::New => Some(("vault", true)),
+            Command::Table => Some(("csv", false)),
+            Command::Run | Command::Demo => None,
+        }
+    }
+
+    /// The least and the greatest number of words behind it.
+    fn words(self) -> (usize, usize) {
+        match self {
+            Command::New | Command::Table => (1, 1),
+            Command::Run => (1, 2),
+            Command::Demo => (0, 1),
+        }
+    }
+}
+
+/// What is wanted.
+#[derive(Debug, PartialEq, Eq)]
+pub enum Wish {
+    New { dir: PathBuf, vault: Option<PathBuf> },
+    Run { dir: PathBuf, script: Option<PathBuf> },
+    Table { dir: PathBuf, csv: bool },
+    Demo { dir: Option<PathBuf> },
+    Help(Option<Command>),
+    Version,
+}
+
+/// What is wrong with a command line: whole lines.
+#[derive(Debug, PartialEq, Eq)]
+pub struct Wrong(pub String);
+
+impl Wrong {
+    /// With how the command is written.
+    fn of(command: Option<Command>, what: &str) -> Wrong {
+        Wrong(match command {
+            Some(command) => format!("paviluko {}: {what}\nusage: {}\n", command.name(), command.usage()),
+            None => format!("paviluko: {what}\npaviluko --help lists the commands\n"),
+        })
+    }
+}
+
+/// Reads the words behind the program's name. A wish for help or the version is granted wherever it stands.
+pub fn read(words: impl IntoIterator<Item = OsString>) -> Result<Wish, Wrong> {
+    let words: Vec<OsString> = words.into_iter().collect();
+    let mut line = Line::default();
+    let mut parser = Parser::from_args(words);
+    loop {
+        // An option that has a word with it, as --csv=x, and takes none is an error of the next step.
+        match parser.next() {
+            Ok(None) => return line.wish(),
+            Ok(Some(Arg::Long("help") | Arg::Short('h'))) => return Ok(Wish::Help(line.command)),
+            Ok(Some(Arg::Long("version") | Arg::Short('V'))) => return Ok(Wish::Version),
+            Ok(Some(Arg::Value(word))) => line.word(word),
+            Ok(Some(Arg::Short(letter))) => line.no_option(&format!("-{letter}")),
+            Ok(Some(Arg::Long(name))) => {
+                let name = name.to_string();
+                match line.command.and_then(Command::option) {
+                    Some((own, true)) if own == name => match parser.value() {
+                        Ok(value) => line.value = line.name(value),
+                        Err(_) => line.complain(&format!("a word is missing behind --{name}")),
+                    },
+                    Some((own, false)) if own == name => line.flag = true,
+                    _ => {
+                        line.no_option(&format!("--{name}"));
+                        parser.optional_value();
+                    }
+                }
+            }
+            Err(error) => line.complain(&clean(&error.to_string())),
+        }
+    }
+}
+
+/// What was read so far.
+#[derive(Default)]
+struct Line {
+    command: Option<Command>,
+    /// The first word, where it is help or version.
+    other: Option<Wish>,
+    names: Vec<PathBuf>,
+    /// The command's option was given.
+    flag: bool,
+    /// The word behind it.
+    value: Option<PathBuf>,
+    /// The first thing that is wrong.
+    wrong: Option<Wrong>,
+}
+
+impl Line {
+    fn complain(&mut self, what: &str) {
+        let wrong = Wrong::of(self.command, what);
+        self.wrong.get_or_insert(wrong);
+    }
+
+    /// A word that is no option.
+    fn word(&mut self, word: OsString) {
+        let text = word.to_string_lossy().into_owned();
+        if self.wrong.is_some() && self.command.is_none() {
+            return;
+        }
+        match (self.command, &self.other) {
+            (None, None) => match text.as_str() {
+                "help" => self.other = Some(Wish::Help(None)),
+                "version" => self.other = Some(Wish::Version),
+                _ => self.first(&text),
+            },
+            (None, Some(Wish::Help(None))) => match Command::of(&text) {
+                Some(command) => self.other = Some(Wish::Help(Some(command))),
+                None => self.first(&text),
+            },
+            (Some(command), _) if self.names.len() < command.words().1 => {
+                if let Some(name) = self.name(word) {
+                    self.names.push(name);
+                }
+            }
+            _ => self.complain(&format!("{} is one word too many", quoted(&text))),
+        }
+    }
+
+    /// The word that names the command.
+    fn first(&mut self, text: &str) {
+        self.command = Command::of(text);
+        if self.command.is_none() {
+            let meant = near::question(text, WORDS);
+            self.complain(&format!("there is no command {}{meant}", quoted(text)));
+        }
+    }
+
+    /// A folder's or a file's name.
+    fn name(&mut self, word: OsString) -> Option<PathBuf> {
+        let path = PathBuf::from(word);
+        if let Some(what) = no_name(&path) {
+            self.complain(&what);
+            return None;
+        }
+        Some(path)
+    }
+
+    fn no_option(&mut self, option: &str) {
+        let own = self.command.and_then(Command::option).map(|(name, _)| format!("--{name}"));
+        let known = ["--help", "--version"].into_iter().chain(own.as_deref());
+        let meant = near::question(option, known);
+        let option = clean(option);
+        self.complain(&format!("there is no option {option}{meant}; a name that begins so is written ./{option}"));
+    }
+
+    /// What all of it says.
+    fn wish(self) -> Result<Wish, Wrong> {
+        if let Some(wrong) = self.wrong {
+            return Err(wrong);
+        }
+        if let Some(other) = self.other {
+            return Ok(other);
+        }
+        let Some(command) = self.command else {
+            return Err(Wrong(format!("paviluko: a command is missing\n\n{USAGE}")));
+        };
+        if self.names.len() < command.words().0 {
+            return Err(Wrong::of(Some(command), "the folder DIR is missing"));
+        }
+        let mut names = self.names.into_iter();
+        let first = names.next();
+        let dir = first.clone().unwrap_or_default();
+        Ok(match command {
+            Command::New => Wish::New { dir, vault: self.value },
+            Command::Run => Wish::Run { dir, script: names.next() },
+            Command::Table => Wish::Table { dir, csv: self.flag },
+            Command::Demo => Wish::Demo { dir: first },
+        })
+    }
+}
+
+/// Why a word is refused as the name of a folder or a file.
+pub fn no_name(path: &Path) -> Option<String> {
+    match path.as_os_str().as_encoded_bytes().first() {
+        None => Some("a name is empty".to_string()),
+        Some(b'-') => Some(format!("no name may begin with -: write ./{}", shown(path))),
+        Some(_) => None,
+    }
+}
+
+/// A word as it was written, between quotation marks.
+fn quoted(word: &str) -> String {
+    format!("\"{}\"", clean(word))
+}
+
+#[cfg(test)]
+mod tests {
+    use super::*;
+    use crate::wrap::{WIDTH, width};
+
+    fn line(text: &str) -> Result<Wish, Wrong> {
+        read(text.split_whitespace().map(OsString::from))
+    }
+
+    #[test]
+    fn wishes() {
+        let dir = || PathBuf::from("box");
+        for (text, wish) in [
+            ("new box", Wish::New { dir: dir(), vault: None }),
+            ("new --vault v box", Wish::New { dir: dir(), vault: Some("v".into()) }),
+            ("new box --vault=v", Wish::New { dir: dir(), vault: Some("v".into()) }),
+            ("new -- box", Wish::New { dir: dir(), vault: None }),
+            ("run box", Wish::Run { dir: dir(), script: None }),
+            ("run box new", Wish::Run { dir: dir(), script: Some("new".into()) }),
+            ("table box", Wish::Table { dir: dir(), csv: false }),
+            ("table --csv box", Wish::Table { dir: dir(), csv: true }),
+            ("demo", Wish::Demo { dir: None }),
+            ("demo box", Wish::Demo { dir: Some(dir()) }),
+            ("new ./-x", Wish::New { dir: "./-x".into(), vault: None }),
+            ("-h", Wish::Help(None)),
+            ("help", Wish::Help(None)),
+            ("help run", Wish::Help(Some(Command::Run))),
+            ("run --help", Wish::Help(Some(Command::Run))),
+            ("new a b c --help", Wish::Help(Some(Command::New))),
+            ("nwe --help", Wish::Help(None)),
+            ("new --frob -h", Wish::Help(Some(Command::New))),
+            ("version", Wish::Version),
+            ("run box -V", Wish::Version),
+            ("--version box", Wish::Version),
+        ] {
+            assert_eq!(line(text), Ok(wish), "{text}");
+        }
+    }
+
+    #[test]
+    fn what_is_wrong_is_named() {
+        for (text, what) in [
+            ("", "a command is missing"),
+            ("nwe box", "there is no command \"nwe\" (did you mean new?)"),
+            ("sell box --csv", "there is no command \"sell\"\n"),
+            ("help nwe", "there is no command \"nwe\""),
+            ("new", "paviluko new: the folder DIR is missing\nusage: paviluko new [--vault FILE] DIR\n"),
+            ("new a b c", "\"b\" is one word too many\nusage: paviluko new"),
+            ("help new x", "\"x\" is one word too many"),
+            ("version x", "\"x\" is one word too many"),
+            ("demo a b", "\"b\" is one word too many"),
+            (
+                "new --valut x",
+                "there is no option --valut (did you mean --vault?); a name that begins so is written ./--valut",
+            ),
+            ("new -x", "there is no option -x; a name that begins so is written ./-x"),
+            ("new -- -x", "no name may begin with -: write ./-x"),
+            ("new --vault", "a word is missing behind --vault"),
+            ("new --vault -x box", "no name may begin with -: write ./-x"),
+            ("new --vault box", "the folder DIR is missing"),
+            ("run --csv box", "there is no option --csv"),
+            ("table --csv=x box", "--csv"),
+            ("run box -", "no name may begin with -: write ./-"),
+        ] {
+            let Err(Wrong(said)) = line(text) else { panic!("{text}: taken") };
+            assert!(said.contains(what), "{text}: {said}");
+            assert!(said.starts_with("paviluko") && said.ends_with('\n'), "{said}");
+        }
+        assert!(read(["new".into(), "".into()]).is_err());
+    }
+
+    #[test]
+    fn texts_fit_the_screen() {
+        let texts = COMMANDS.map(Command::help).join("\n") + USAGE;
+        for line in texts.lines() {
+            assert!(width(line) <= WIDTH, "{line}");
+        }
+    }
+}
