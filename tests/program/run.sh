@@ -1,6 +1,7 @@
 #!/bin/sh
 # The program paviluko as a person uses it: sessions with expected answers, those of the documents at a terminal, its identity,
-# wrong command lines, odd input, damaged files, cards changed and damaged, and the program killed at random moments. A line each.
+# command lines, odd input, completion, damaged files, cards changed and damaged, and the program killed at random moments. A line
+# each.
 # Run from the repository's top; the library is built before. PAVILUKO_LIB may name another folder with its archive.
 # With the argument --write, the answers become the expected ones (look at them before you commit them).
 set -eu
@@ -67,6 +68,8 @@ files_for_csv() {
     printf '2,100,9,1,5\n2,100,8,1,5\n2,100,9,1,6\n' >twice.csv
     printf '7,900,9,1,5\n9,900,9,1,5\n7,901,9,1,6\n' >lane-9.csv
     awk 'BEGIN { for (i = 0; i < 300; i++) printf "%d,%d,%d,%d,%d\n", i % 8, 1000 + i, i % 256, 1 + i % 4, i }' >long.csv
+    awk 'BEGIN { for (i = 0; i < 128; i++) printf "%d,100,9,1,%d\n", i % 8, i }' >fill.csv
+    awk 'BEGIN { for (i = 0; i < 9; i++) printf "%d,%d,5,1,%d\n", i % 8, 900 - i, i }' >backwards.csv
     : >empty.csv
     printf '0,1,\377\376,1,1\n' >binary.csv
 }
@@ -82,19 +85,27 @@ for script in "$here"/*.in; do
     expected=${script%.in}.out
     [ "${1:-}" != --write ] || cp "$place/out" "$expected"
     diff "$expected" "$place/out" >&2 || fail "$(basename "$script"): other answers than expected"
+    awk 'length($0) > 100 { exit 1 }' "$place/out" || fail "$(basename "$script"): an answer wider than 100 columns"
     [ "$status" = "$wanted" ] || fail "$(basename "$script"): exit status $status and not $wanted"
-    # The same from a file.
+    # The same from a file, whose name a refusal says too: word for word, since lines are then broken elsewhere.
     fresh
     files_for_csv
     quietly "$program" new box
-    "$program" run box "$script" >"$place/again" 2>&1 || true
-    diff "$place/out" "$place/again" >&2 || fail "$(basename "$script"): other answers from a file"
+    cp "$script" a-script
+    "$program" run box a-script >"$place/again" 2>&1 || true
+    tr -s ' \n' '\n\n' <"$place/out" >"$place/words"
+    refused=$(grep -c '^line [0-9]*: ' "$place/out" || true)
+    [ "$(grep -c '^a-script, line [0-9]*: ' "$place/again" || true)" = "$refused" ] ||
+        fail "$(basename "$script"): not every refusal says its line"
+    tr -s ' \n' '\n\n' <"$place/again" | grep -vx 'a-script,' | diff "$place/words" - >&2 ||
+        fail "$(basename "$script"): other answers from a file"
     sessions=$((sessions + 1))
 done
 echo "program: $sessions sessions answered as expected"
 
 cd "$top"
 python3 "$here/sessions.py" "$program" README.md docs/FITTER.md
+python3 "$here/terminal.py" "$program"
 
 # ---- identity ----
 
@@ -136,17 +147,42 @@ echo "program: edition $edition, sources ${sources:-$unknown}; an archive that i
 
 cases=0
 fresh
-expect 0 'paviluko new DIR' "$program" --help
-expect 0 'paviluko --version' "$program" --help
-expect 2 'paviluko new DIR' "$program" --version box
-expect 2 'paviluko new DIR' "$program"
-expect 2 'paviluko new DIR' "$program" new
-expect 2 'paviluko new DIR' "$program" new a b
-expect 2 'paviluko new DIR' "$program" run
-expect 2 'paviluko new DIR' "$program" sell box
-expect 2 'paviluko new DIR' "$program" "$(printf '\377')"
-expect 1 'box/vault: not found' "$program" run box
-expect 1 'no/box: not found' "$program" new no/box
+for words in --help -h help 'nwe --help' '--help new x'; do
+    expect 0 'paviluko table DIR [--csv]' "$program" $words
+done
+for command in new run table demo; do
+    for words in "$command --help" "$command box -h" "help $command" "$command a b c d --help"; do
+        expect 0 "paviluko $command" "$program" $words
+        ! grep -q 'paviluko --version' "$log" || fail "paviluko $words: the help of everything"
+    done
+    expect 0 'edition' "$program" "$command" --version
+    expect 0 'edition' "$program" "$command" box -V
+done
+expect 2 'a command is missing' "$program"
+expect 2 'there is no command "nwe" (did you mean new?)' "$program" nwe box
+expect 2 'there is no command "sell"' "$program" sell box
+expect 2 'there is no command' "$program" "$(printf '\377')"
+expect 2 'there is no command "\u{1b}[2J"' "$program" "$(printf '\033[2J')"
+expect 2 'there is no command ""' "$program" ''
+expect 2 'usage: paviluko new [--vault FILE] DIR' "$program" new
+expect 2 '"b" is one word too many' "$program" new a b
+expect 2 '"x" is one word too many' "$program" version x
+expect 2 'the folder DIR is missing' "$program" run
+expect 2 'the folder DIR is missing' "$program" table --csv
+expect 2 '"c" is one word too many' "$program" run a b c
+expect 2 'there is no option --tsv (did you mean --csv?)' "$program" table box --tsv
+expect 2 'written ./-x' "$program" new -x
+expect 2 'write ./-x' "$program" new -- -x
+expect 2 'written ./--neu' "$program" demo --neu
+expect 2 'write ./-' "$program" run box -
+expect 2 'a word is missing behind --vault' "$program" new --vault
+expect 2 'write ./-x' "$program" new box --vault -x
+expect 2 'a name is empty' "$program" new ''
+[ -z "$("$program" sell box 2>/dev/null)$("$program" new 2>/dev/null)" ] || fail 'a wrong command line on standard output'
+[ -z "$(ls)" ] || fail "a wrong command line made $(ls)"
+expect 1 'box: not found' "$program" run box
+expect 1 'box: not found' "$program" table box
+expect 1 'no: not found' "$program" new no/box
 expect 0 'a new box' "$program" new box
 [ "$(stat -c %a box/key box/vault)" = "$(printf '600\n600')" ] || fail 'others may read the key or the vault'
 expect 1 'this folder is not empty' "$program" new box
@@ -174,7 +210,11 @@ expect 1 'in service' "$program" run box script
 grep -q 'is no command' "$log" || fail 'a long line was not refused'
 head -c 300000 /dev/zero >script
 expect 1 'is no command' "$program" run box script
-expect 1 '' "$program" run box .
+expect 1 'paviluko: .: is a folder' "$program" run box .
+says 1 'script, line 3: refused: 4,' 'start\n# a note\ntake 0 5 1=9:1\ntake 0 5 1=1:1\n'
+says 1 'script, line 2: unknown command: stop (did you mean start?)' 'start\nstop\n'
+printf 'start\n\ntabel\n' | "$program" run box >"$log" || true
+grep -q '^line 3: unknown command: tabel (did you mean table?)' "$log" || fail 'a pipe has no lines'
 awk 'BEGIN { print "start"; for (i = 0; i < 20000; i++) print "status" }' >script
 { "$program" run box script 2>"$place/err" || true; } | head -n 1 >"$log"
 grep -q 'in service' "$log" || fail 'nothing was said to a reader that goes away'
@@ -189,7 +229,94 @@ expect 1 'another session runs this box' "$program" run box
 exec 3>&-
 wait "$first"
 expect 0 '' "$program" run box
+
+# The table without a session: data on standard output, all else on standard error.
+printf 'start\ntake 7 1772409600 5=1:1300 6=4:-2\n' | "$program" run box >"$log"
+"$program" table box --csv >"$place/out" 2>"$place/err"
+printf '%s\n' meter,code,reading,stamp,lane,number,medium,unit,utc 1,1,1,5,0,1,'cold water',l,1970-01-01T00:00:05Z \
+    5,1,1300,1772409600,7,1,'cold water',l,2026-03-02T00:00:00Z 6,4,-2,1772409600,7,1,cooling,kWh,2026-03-02T00:00:00Z |
+    diff - "$place/out" >&2 || fail 'paviluko table --csv: not the table'
+printf '%s\n' 'Box box, card box/card-1: 1 record, 1 checkpoint.' \
+    'in service after 15 stores; 1 record read from the card, 3 meters in the table' |
+    diff - "$place/err" >&2 || fail 'paviluko table: not these notices'
+"$program" table box >"$place/out" 2>/dev/null
+printf 'start\ntable\n' | "$program" run box | tail -n +2 | diff - "$place/out" >&2 || fail 'paviluko table: not as table'
+mv box/card-1 lifted
+expect 1 'paviluko: box/card-1: not found' "$program" table box
+mkdir box/card-1
+expect 1 'refused: 9 (byte 0)' "$program" table box
+[ -z "$("$program" table box 2>/dev/null)" ] || fail 'a refused start, and something on standard output'
+rm -r box/card-1
+mv lifted box/card-1
+expect 0 '' "$program" table box
+
+# Vaults that somebody wrote: 8 and 2, each at its place, and files that are none.
+vault_says() {
+    printf "$3" >numbers
+    rm -rf tried
+    expect 0 'a new box' "$program" new --vault numbers tried
+    printf 'start\ntake 0 1 1=1:1\ncheckpoint\ncut\nstart\n' >script
+    expect "$1" "$2" "$program" run tried script
+}
+spent=281474976710655
+vault_says 0 'in service' ''
+vault_says 1 'script, line 1: refused: 8,' 's 281474976710654\n'
+vault_says 1 'script, line 1: refused: 8,' 'n 281474976710654\n'
+vault_says 1 'script, line 1: refused: 8,' "e $spent\n"
+vault_says 1 'script, line 2: refused: 8,' "w $spent 0 0 0 0 0 0 0\nv $spent 0 0 0 0 0 0 0\nr $spent 0 0 0 0 0 0 0\n"
+vault_says 1 'script, line 1: refused: 2,' '# V above W\nw 1 0 0 0 0 0 0 0\nv 2 0 0 0 0 0 0 0\n'
+vault_says 1 'script, line 1: refused: 2,' 'n 281474976710656\n'
+cp box/vault numbers
+rm -rf tried
+expect 0 'a new box' "$program" new tried --vault=numbers
+cmp box/vault tried/vault || fail 'not the vault that was given'
+rm -rf tried
+no_vault() {
+    printf "$2" >numbers
+    expect 1 "$1" "$program" new --vault numbers tried
+    [ ! -e tried ] || fail "a box of a bad vault: $1"
+}
+no_vault 'numbers, line 2: 8 numbers are wanted behind w, and here are 1' '\nw 1\n'
+no_vault 'numbers, line 1: x is no number of the vault' 'e x\n'
+no_vault 'numbers, line 2: s is in line 1 already' 's 1\ns 1\n'
+no_vault 'numbers, line 2: this is not the checksum' 's 1\nsum 0\n'
+no_vault 'numbers: is not a text' '\377\n'
+expect 1 'nowhere: not found' "$program" new --vault nowhere tried
 echo "program: $cases command lines and odd scripts"
+
+# ---- completion ----
+
+# Completes the last word of a command line. What it can be, in order and between bars.
+cases=0
+completes() {
+    wanted=$1
+    shift
+    found=$(bash -c '. "$1"; shift; COMP_WORDS=(paviluko "$@"); COMP_CWORD=$#; _paviluko; printf "%s\n" "${COMPREPLY[@]}"' \
+        bash "$top/tools/paviluko.bash" "$@" | LC_ALL=C sort | paste -sd '|')
+    [ "$found" = "$wanted" ] || fail "completion of '$*': $found and not $wanted"
+    cases=$((cases + 1))
+}
+fresh
+mkdir box 'a folder'
+: >script
+completes '--help|--version|demo|help|new|run|table|version' ''
+completes table ta
+completes '--help|--version' --
+completes '--help|--vault|--version' new --
+completes '--csv|--help|--version' table box -
+completes --csv table --c
+completes --help run box --h
+completes 'a folder|box' run ''
+completes 'a folder|box' table --csv ''
+completes box new --vault script b
+completes 'a folder|box|script' new --vault ''
+completes 'a folder|box|script' run box ''
+completes script run box s
+completes '' run box script ''
+completes '' table box ''
+completes 'demo|new|run|table' help ''
+completes '' version ''
+echo "program: $cases words completed"
 
 # ---- damaged files ----
 
@@ -202,7 +329,8 @@ for name in box other; do
     quietly "$program" run "$name" script
 done
 printf 'start\ntable --csv\n' >script
-printf 'meter,code,reading,stamp,lane,number\n1,1,20,200,0,2\n2,3,30,300,1,1\n' >table
+printf '%s\n' meter,code,reading,stamp,lane,number,medium,unit,utc '1,1,20,200,0,2,cold water,l,1970-01-01T00:03:20Z' \
+    2,3,30,300,1,1,heat,kWh,1970-01-01T00:05:00Z >table
 cp -r box good
 records=box/card-1/records.1
 files=box/card-1/checkpoints

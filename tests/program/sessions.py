@@ -22,6 +22,8 @@ INDENT = "    "
 COMMAND = "$ "
 PROGRAM = "target-rust/release/paviluko"
 PROMPT = "paviluko> "
+# A terminal that can move its cursor, and whoever sits there wants no colours.
+PLAIN = {"TERM": "xterm", "NO_COLOR": "1"}
 # How long a prompt, or the end of a command, is waited for.
 SECONDS = 60
 
@@ -58,7 +60,7 @@ def commands(block):
 class Terminal:
     """A command at a terminal: what it showed so far, without carriage returns."""
 
-    def __init__(self, command, folder):
+    def __init__(self, command, folder, around=PLAIN):
         self.shown = ""
         # How much was shown when something was typed last.
         self.answered = 0
@@ -69,7 +71,8 @@ class Terminal:
             for name in (signal.SIGINT, signal.SIGQUIT, signal.SIGHUP, signal.SIGPIPE):
                 signal.signal(name, signal.SIG_DFL)
             os.chdir(folder)
-            os.execv("/bin/sh", ["sh", "-c", command])
+            kept = {name: value for name, value in os.environ.items() if name not in PLAIN}
+            os.execve("/bin/sh", ["sh", "-c", command], kept | around)
 
     def prompts(self):
         """Whether the program waits at its prompt, and not at the one that was answered."""
@@ -90,7 +93,7 @@ class Terminal:
             self.shown += part.decode("utf-8", "replace").replace("\r", "")
 
     def type(self, text):
-        """Types; the terminal shows it behind the prompt."""
+        """Types; it is shown behind the prompt."""
         self.answered = len(self.shown)
         os.write(self.side, text.encode())
         self.wait()

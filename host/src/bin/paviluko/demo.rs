@@ -388,10 +388,7 @@ impl Demo {
         let before = *self.runner.numbers();
         match self.runner.start() {
             Err(Stop::Refused(refusal @ Refusal { number: said, .. })) if said == number => {
-                let text = refusal.to_string();
-                let (means, then) = text.split_once(". ").unwrap_or((&text, ""));
-                self.say(&format!("{what}: refused: {means}."))?;
-                self.say_under(then)?;
+                self.say(&format!("{what}: refused: {refusal}"))?;
             }
             Err(stop) => return wrong(format!("{what}: {number} was expected, and not {stop}")),
             Ok(_) => return wrong(format!("{what} was taken")),
@@ -487,16 +484,7 @@ impl Demo {
     }
 
     fn say(&self, text: &str) -> Result<(), Trouble> {
-        self.say_behind(INDENT, text)
-    }
-
-    /// Says more of what was said.
-    fn say_under(&self, text: &str) -> Result<(), Trouble> {
-        self.say_behind(2 * INDENT, text)
-    }
-
-    fn say_behind(&self, indent: usize, text: &str) -> Result<(), Trouble> {
-        let text = wrap(&format!("{:indent$}{text}", ""), 2 * INDENT);
+        let text = wrap(&format!("{:INDENT$}{text}", ""), 2 * INDENT);
         write!(io::stdout(), "\n{}", text.trim_end()).map_err(Trouble::from)
     }
 

@@ -59,6 +59,9 @@ const ENTRIES: [Entry; 21] = [
     entry("# ..", "is passed over"),
 ];
 
+/// The commands that take the name of a folder or a file.
+const NAMING: [&str; 3] = ["take", "swap-card", "copy-card"];
+
 /// The names of all commands.
 pub fn names() -> Vec<&'static str> {
     let mut names: Vec<&str> = ENTRIES.iter().map(Entry::name).filter(|name| *name != "#").collect();
@@ -113,7 +116,8 @@ pub fn bad_option(name: &str, words: &[&str]) -> Option<Answer> {
     }
     let meant = near::question(option, known.iter().copied());
     let option = clean(&short(option));
-    Some(Answer::failed(format!("wrong command: {name} has no option {option}{meant}; a name is written ./{option}")))
+    let named = if NAMING.contains(&name) { format!("; a name is written ./{option}") } else { String::new() };
+    Some(Answer::failed(format!("wrong command: {name} has no option {option}{meant}{named}")))
 }
 
 /// As much of a word as is of use in an answer.

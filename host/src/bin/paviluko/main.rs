@@ -111,9 +111,9 @@ fn run(dir: &Path, script: Option<&Path>) -> io::Result<u8> {
     };
     let (typed, seen) = (io::stdin().is_terminal(), io::stdout().is_terminal());
     let fine = match script {
-        Some(path) => match File::open(path) {
+        Some(path) => match script_file(path) {
             Ok(file) => converse::from_reader(&mut session, BufReader::new(file), Some(&format!("{}, ", shown(path))))?,
-            Err(error) => return failed(Fault::unusable(path)(error)),
+            Err(fault) => return failed(fault),
         },
         None if typed && seen => {
             converse::at_terminal(&mut session, colour::capable())?;
@@ -123,6 +123,15 @@ fn run(dir: &Path, script: Option<&Path>) -> io::Result<u8> {
         None => converse::from_reader(&mut session, io::stdin().lock(), (!typed).then_some(""))?,
     };
     Ok(if fine { FINE } else { FAILED })
+}
+
+/// A script, which is no folder.
+fn script_file(path: &Path) -> Result<File, Fault> {
+    let file = File::open(path).map_err(Fault::unusable(path))?;
+    match file.metadata() {
+        Ok(found) if found.is_dir() => Err(Fault::unusable(path)(io::ErrorKind::IsADirectory.into())),
+        _ => Ok(file),
+    }
 }
 
 /// `paviluko table`: the table on standard output, all else on standard error.

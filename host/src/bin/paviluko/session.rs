@@ -62,7 +62,9 @@ impl Session {
             ("take", ["--no-tidy", lane, stamp, writes @ ..]) if !writes.is_empty() => {
                 self.take(lane, stamp, writes, Way::TakeOnly)
             }
-            ("take", [lane, stamp, writes @ ..]) if !writes.is_empty() => self.take(lane, stamp, writes, Way::Take),
+            ("take", [lane, stamp, writes @ ..]) if !writes.is_empty() && !lane.starts_with("--") => {
+                self.take(lane, stamp, writes, Way::Take)
+            }
             ("accept", [lane, stamp, writes @ ..]) if !writes.is_empty() => self.take(lane, stamp, writes, Way::Accept),
             ("commit", [at]) => self.commit(at),
             ("table", []) => self.table(false),
@@ -152,7 +154,10 @@ impl Session {
         let mut said =
             format!("visible: {}, {}", screen::count(batches.len(), "transaction"), screen::count(readings, "reading"));
         if rooms > 0 {
-            said += &format!("; room was made {}", screen::count(rooms, "time"));
+            said += &match rooms {
+                1 => "; room was made once".to_string(),
+                _ => format!("; room was made {rooms} times"),
+            };
         }
         Ok(warned(Answer::fine(said), &warnings))
     }

@@ -33,8 +33,9 @@ pub fn odd(collector: Option<&Collector>, stamp: u64, writes: &[Write], now: u64
 /// A stamp before the latest of some meters.
 fn before(stamp: u64, later: &[(u16, u64)]) -> String {
     let meters: Vec<String> = later.iter().map(|(meter, latest)| format!("{meter} ({latest})")).collect();
+    let kept = if meters.len() == 1 { "that one" } else { "those" };
     let meters = named(&meters);
-    format!("stamp {stamp} lies before the latest of {meters}: it is taken, and the table keeps the later reading")
+    format!("stamp {stamp} is before the latest of {meters}: the table keeps {kept}")
 }
 
 /// A stamp ahead of the clock.
@@ -70,8 +71,8 @@ mod tests {
 
     #[test]
     fn before_the_latest() {
-        let text = "stamp 10 lies before the latest of meters 5 (20), 7 (30): \
-                    it is taken, and the table keeps the later reading";
+        let text = "stamp 10 is before the latest of meters 5 (20), 7 (30): the table keeps those";
         assert_eq!(before(10, &[(5, 20), (7, 30)]), text);
+        assert_eq!(before(10, &[(5, 20)]), "stamp 10 is before the latest of meter 5 (20): the table keeps that one");
     }
 }
