@@ -71,7 +71,7 @@ pub fn run(dir: Option<&Path>) -> io::Result<u8> {
     let place = match Place::new(dir) {
         Ok(place) => place,
         Err(fault) => {
-            crate::notice(Tone::Bad, format!("paviluko: {fault}"))?;
+            crate::notice(Tone::Bad, format!("paviluko: {fault}"));
             return Ok(1);
         }
     };

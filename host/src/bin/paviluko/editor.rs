@@ -179,7 +179,7 @@ impl Editor {
         if self.stale {
             self.draw(out);
         }
-        if typed.is_some() {
+        if matches!(typed, Some(Typed::Line(_))) {
             out.push('\n');
         }
         (used, typed)
@@ -196,8 +196,8 @@ impl Editor {
             Decoded::More | Decoded::Nothing => None,
             Decoded::Broken => {
                 self.key(Key::Char(char::REPLACEMENT_CHARACTER), out);
-                // A byte that continues nothing is gone with the rest.
-                if (0x80..0xc0).contains(&byte) || byte > 0xf4 { None } else { self.byte(byte, out) }
+                // A byte that can begin no character is gone with the rest.
+                if (0x80..0xc2).contains(&byte) || byte > 0xf4 { None } else { self.byte(byte, out) }
             }
         }
     }
@@ -433,6 +433,7 @@ mod tests {
             ("aé水\x7f\x7fb\n".as_bytes(), "ab"),
             ("é\x1b[D\x1b[Dx\n".as_bytes(), "xé"),
             (b"a\xffb\xc3c\xc3\n", "a\u{fffd}b\u{fffd}c\u{fffd}"),
+            (b"a\xc0b\xc1\xf5c\n", "a\u{fffd}b\u{fffd}\u{fffd}c"),
             (b"a\x00\x1a\xc2\x85b\n", "ab"),
         ] {
             assert_eq!(line(bytes), wanted, "{}", bytes.escape_ascii());
@@ -497,6 +498,30 @@ mod tests {
         out.clear();
         editor.feed(b"\x1b[C\x1b[C", &mut out);
         assert_eq!(out, "\r> 012345678\x1b[K\r\x1b[4C");
+    }
+
+    #[test]
+    fn any_bytes_at_all() {
+        let mut editor = editor();
+        let mut random = 0x2545_f491_4f6c_dd1d_u64;
+        let mut out = String::new();
+        for _ in 0..50_000 {
+            random ^= random << 13;
+            random ^= random >> 7;
+            random ^= random << 17;
+            let byte = random as u8;
+            // Every other byte is one of those that mean something.
+            let common =
+                *b"\x1b[ABCDHF3~\x01\x03\x05\x0b\x15\x17\x7f\t a\n".get(usize::from(byte >> 3)).unwrap_or(&byte);
+            let (used, typed) = editor.feed(&[if random & 0x100 == 0 { byte } else { common }], &mut out);
+            assert_eq!(used, 1);
+            assert!(editor.at <= editor.line.len() && editor.bytes < editor.longest);
+            assert_eq!(editor.bytes, editor.line.iter().map(|c| c.len_utf8()).sum::<usize>());
+            if typed.is_some() {
+                editor.begin(usize::from(byte), &mut out);
+            }
+            out.clear();
+        }
     }
 
     #[test]

@@ -42,7 +42,7 @@ fn main() -> ExitCode {
     let status = command_line().unwrap_or_else(|error| {
         // A reader that went away (as `head` does) ends the program without a word.
         if error.kind() != io::ErrorKind::BrokenPipe {
-            let _ = notice(Tone::Bad, format!("paviluko: nothing can be read or printed any more: {error}"));
+            notice(Tone::Bad, format!("paviluko: nothing can be read or printed any more: {error}"));
         }
         FAILED
     });
@@ -52,7 +52,7 @@ fn main() -> ExitCode {
 /// Does what the command line says. The exit status; an error where nobody reads what is printed.
 fn command_line() -> io::Result<u8> {
     if let Err(error) = secret::no_dumps() {
-        notice(Tone::Warning, format!("paviluko: if this program dies, its memory may be written to a file: {error}"))?;
+        notice(Tone::Warning, format!("paviluko: if this program dies, its memory may be written to a file: {error}"));
     }
     match args::read(std::env::args_os().skip(1)) {
         Ok(Wish::New { dir, vault }) => make(&dir, vault.as_deref()),
@@ -62,7 +62,7 @@ fn command_line() -> io::Result<u8> {
         Ok(Wish::Help(command)) => print(&command.map_or(args::USAGE.to_string(), |command| command.help())),
         Ok(Wish::Version) => print(&identity::lines(identity::edition(), identity::sources())),
         Err(Wrong(what)) => {
-            notice(Tone::Plain, what)?;
+            notice(Tone::Plain, what);
             Ok(BAD_USAGE)
         }
     }
@@ -73,15 +73,15 @@ fn print(text: &str) -> io::Result<u8> {
     Ok(FINE)
 }
 
-/// Says something on standard error.
-pub fn notice(tone: Tone, text: impl Display) -> io::Result<()> {
+/// Says something on standard error. Where nobody reads it, the rest is done all the same.
+pub fn notice(tone: Tone, text: impl Display) {
     let text = wrap::wrap(&text.to_string(), wrap::INDENT);
-    io::stderr().write_all(Colours::of(&io::stderr()).paint(tone, &text).as_bytes())
+    let _ = io::stderr().write_all(Colours::of(&io::stderr()).paint(tone, &text).as_bytes());
 }
 
 /// Says what is wrong with a box or a file.
 fn failed(what: impl Display) -> io::Result<u8> {
-    notice(Tone::Bad, format!("paviluko: {what}"))?;
+    notice(Tone::Bad, format!("paviluko: {what}"));
     Ok(FAILED)
 }
 
@@ -141,12 +141,12 @@ fn table(dir: &Path, csv: bool) -> io::Result<u8> {
         Err(fault) => return failed(fault),
     };
     let card = format!("Box {}, card {}.", screen::near(runner.folder().path()), screen::card(&runner));
-    notice(Tone::Plain, card)?;
+    notice(Tone::Plain, card);
     let started = match runner.start() {
         Ok(started) => started,
         Err(stop) => return failed(stop),
     };
-    notice(Tone::Plain, session::in_service(&runner, &started))?;
+    notice(Tone::Plain, session::in_service(&runner, &started));
     let readings = runner.collector().map(|collector| collector.readings()).unwrap_or_default();
     session::table(&readings, csv).print(&mut io::stdout(), Colours::of(&io::stdout()))?;
     Ok(FINE)
