@@ -105,7 +105,7 @@ echo "program: $sessions sessions answered as expected"
 
 cd "$top"
 python3 "$here/sessions.py" "$program" README.md docs/FITTER.md
-python3 "$here/terminal.py" "$program"
+python3 -B "$here/terminal.py" "$program"
 
 # ---- identity ----
 
