@@ -1,5 +1,5 @@
 /*
- * Records what a program changes in files and folders and what it brings to the disk, for host/tests/crash.rs. It is loaded
+ * Records what a program changes in files and folders and what it brings to the disk, for host/tests/crash. It is loaded
  * before the C library (LD_PRELOAD) and stands in front of the calls that do so.
  *
  * PAVILUKO_RECORD names the file that the record is appended to; without it, nothing is recorded.

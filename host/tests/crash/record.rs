@@ -105,6 +105,24 @@ impl History {
         self.new_object(0, &head, name, Event::Folder(there.mode()));
     }
 
+    /// The lines that were answered.
+    pub fn answers(&self) -> Vec<String> {
+        let said = |(_, event): &(u32, Event)| match event {
+            Event::Said(line) => Some(line.clone()),
+            _ => None,
+        };
+        self.events.iter().filter_map(said).collect()
+    }
+
+    /// Where an operation was made to fail first, and which call it was.
+    pub fn failed(&self) -> Option<(usize, String)> {
+        let failed = |(at, (_, event)): (usize, &(u32, Event))| match event {
+            Event::Failed(call) => Some((at, call.clone())),
+            _ => None,
+        };
+        self.events.iter().enumerate().find_map(failed)
+    }
+
     fn inode_of_top(&self) -> Inode {
         let there = fs::metadata(&self.top).expect("there");
         (there.dev(), there.ino())

@@ -144,6 +144,7 @@ fn combination(changes: &[Change], mut number: usize, random: &mut Random) -> Ve
 }
 
 /// What a cut can leave: files and folders by their paths below the top.
+#[derive(Clone)]
 pub struct Tree {
     items: Vec<(PathBuf, u32, Option<(Id, Rc<Content>)>)>,
     /// Of paths and bytes.

@@ -82,7 +82,7 @@ impl Command {
     /// Its line of a script.
     pub fn line(&self) -> String {
         match self {
-            Command::New => String::new(),
+            Command::New => "new".to_string(),
             Command::Start => "start".to_string(),
             Command::Take(take) => format!("take {}", take.words()),
             Command::Accept(take) => format!("accept {}", take.words()),
@@ -156,6 +156,8 @@ pub struct Expected {
     /// The commands under way, and how many of them are behind us.
     commands: Vec<Command>,
     at: usize,
+    /// How many of them may have begun.
+    begun: usize,
     /// Commands that were passed over.
     pub failed: usize,
     /// What the table has in the end.
@@ -163,18 +165,23 @@ pub struct Expected {
 }
 
 impl Expected {
-    /// A folder without a box, or with one whose table is known; and the table that it has in the end.
-    pub fn new(start: Option<&Table>, end: &Table) -> Expected {
-        let cards = vec!["box/card-1".to_string()];
-        let book = start.cloned().unwrap_or_default();
-        Expected { made: start.is_some(), book, cards, end: end.clone(), ..Expected::default() }
+    /// A folder without a box, or with one whose table and card are known; and the table that it has in the end.
+    pub fn new(start: Option<&(Table, String)>, end: &Table) -> Expected {
+        let made = start.is_some();
+        let (book, card) = start.cloned().unwrap_or((Table::new(), crate::FIRST_CARD.to_string()));
+        Expected { made, book, cards: vec![card], end: end.clone(), ..Expected::default() }
     }
 
     /// A script begins.
     pub fn begin(&mut self, commands: &[Command]) {
         self.commands = commands.to_vec();
-        self.at = 0;
-        self.begin_command();
+        (self.at, self.begun) = (0, 0);
+        self.begin_until(1);
+    }
+
+    /// An operation was made to fail. Which command is under way is not known from here on.
+    pub fn fails(&mut self) {
+        self.begin_until(self.commands.len());
     }
 
     /// The command under way.
@@ -192,8 +199,15 @@ impl Expected {
         self.at == self.commands.len() && self.failed == 0
     }
 
-    fn begin_command(&mut self) {
-        let Some(command) = self.commands.get(self.at) else { return };
+    fn begin_until(&mut self, end: usize) {
+        while self.begun < end.min(self.commands.len()) {
+            self.begun += 1;
+            self.begin_command(self.begun - 1);
+        }
+    }
+
+    fn begin_command(&mut self, at: usize) {
+        let command = &self.commands[at];
         if command.goes_on() {
             self.copies.clear();
         }
@@ -213,14 +227,12 @@ impl Expected {
     pub fn said(&mut self, line: &str) {
         let left = &self.commands[self.at.min(self.commands.len())..];
         let Some(failed) = left.iter().position(|command| command.is_reported_by(line)) else { return };
-        for _ in 0..failed {
-            self.at += 1;
-            self.failed += 1;
-            self.begin_command();
-        }
+        self.failed += failed;
+        self.at += failed;
+        self.begin_until(self.at + 1);
         self.done(line);
         self.at += 1;
-        self.begin_command();
+        self.begin_until(self.at + 1);
     }
 
     /// The command under way is reported as done.
