@@ -143,12 +143,22 @@ fn combination(changes: &[Change], mut number: usize, random: &mut Random) -> Ve
     list
 }
 
-/// What a cut can leave: files and folders by their paths below the top.
+/// What a cut can leave: files and folders, each behind the folder that it is in.
 #[derive(Clone)]
 pub struct Tree {
-    items: Vec<(PathBuf, u32, Option<(Id, Rc<Content>)>)>,
+    items: Vec<Item>,
     /// Of paths and bytes.
     pub hash: u64,
+}
+
+/// A file or a folder of a tree.
+#[derive(Clone)]
+struct Item {
+    /// From the top.
+    path: PathBuf,
+    mode: u32,
+    /// Of a file.
+    file: Option<(Id, Rc<Content>)>,
 }
 
 /// The disk, and the changes that were not synced.
@@ -288,11 +298,11 @@ impl Disk {
         match changed.get(&id).unwrap_or(&self.nodes[id]) {
             Node::File(content) => {
                 content.hash.hash(hasher);
-                tree.items.push((path, self.modes[id], Some((id, content.clone()))));
+                tree.items.push(Item { path, mode: self.modes[id], file: Some((id, content.clone())) });
             }
             Node::Folder(names) => {
                 names.len().hash(hasher);
-                tree.items.push((path.clone(), self.modes[id], None));
+                tree.items.push(Item { path: path.clone(), mode: self.modes[id], file: None });
                 for (name, &id) in names {
                     self.collect(id, changed, path.join(name), tree, hasher);
                 }
@@ -340,7 +350,7 @@ impl Disk {
 impl Tree {
     /// Whether it has a folder.
     pub fn has_folder(&self, path: &str) -> bool {
-        self.items.iter().any(|(other, _, file)| file.is_none() && other == Path::new(path))
+        self.items.iter().any(|item| item.file.is_none() && item.path == Path::new(path))
     }
 
     /// Makes a folder hold just this.
@@ -349,7 +359,7 @@ impl Tree {
             fs::remove_dir_all(top).expect("removed");
         }
         let mut first: HashMap<Id, PathBuf> = HashMap::new();
-        for (path, mode, file) in &self.items {
+        for Item { path, mode, file } in &self.items {
             let path = if path.as_os_str().is_empty() { top.to_path_buf() } else { top.join(path) };
             let Some((id, content)) = file else {
                 DirBuilder::new().mode(*mode).create(path).expect("a folder");

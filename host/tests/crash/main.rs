@@ -23,20 +23,20 @@ use std::ops::Range;
 use disk::{Disk, Tree};
 use record::{Ended, Event, Fault, History};
 use script::{Command, Expected, Table, Take};
-use states::{Bench, Loss, Session, Start};
+use states::{Bench, Cuts, Loss, Session, Start};
 
 /// So many combinations of what is left are tried at a cut.
 const COMBINATIONS: usize = 64;
-/// The same in a long session; where the program was killed before, or runs on what a cut has left; where a sync failed.
+/// The same in long sessions, and in those with much that is never synced.
 const COMBINATIONS_LONG: usize = 4;
+/// The same in sessions on what a cut, a kill or a failure has left.
 const COMBINATIONS_LATER: usize = 8;
-const COMBINATIONS_FAILED: usize = 4;
 /// In a long command, one of so many cuts is made.
 const LONG: usize = 41;
 /// Of so many states, one is gone on with: started again, a transaction taken, and started again.
 const GOES_ON: usize = 8;
 /// Of so many states, one is where the program is run anew, and the power cut again.
-const AGAIN: usize = 160;
+const AGAIN: usize = 300;
 /// A session is given up after so many states that are lost.
 const LOSSES: usize = 30;
 /// A number here makes the bounds so many times greater.
@@ -149,7 +149,14 @@ impl Bench {
             assert!(ended.status.success(), "{about}: {}{:?}", ended.errors, history.answers());
         }
         let start = from.map(|_| (Table::new(), FIRST_CARD.to_string()));
-        self.recorded(Session { about: about.to_string(), history, start, scripts, from: 0, bound: COMBINATIONS })
+        self.recorded(Session {
+            about: about.to_string(),
+            history,
+            start,
+            scripts,
+            cuts: Cuts::From(0),
+            bound: COMBINATIONS,
+        })
     }
 
     /// A box that was just made.
@@ -181,7 +188,7 @@ impl Bench {
             let ended = self.run(&mut history, &commands, &Fault::None);
             assert!(ended.status.success(), "{about}: {}{:?}", ended.errors, history.answers());
             let (start, scripts) = (Some((table, card)), vec![commands]);
-            let session = Session { about, history, start, scripts, from: 0, bound: COMBINATIONS_LATER };
+            let session = Session { about, history, start, scripts, cuts: Cuts::From(0), bound: COMBINATIONS_LATER };
             sessions.push(self.recorded(session));
         }
         sessions
@@ -196,21 +203,24 @@ impl Bench {
         let made = self.made();
         let used = self.session("a box in use", Some(&made), &[], &[&used()]).end().whole();
         let plain = script(&[&[Start], &takes(8..9), &TIDY, &takes(9..10)]);
-        let mut list = self.killed("the program is killed in a box's first session", &made, &plain, |_| {
-            script(&[&[Start], &takes(10..11), &TIDY])
-        });
-        list.extend(self.killed("the program is killed in a later session", &used, &plain, |_| {
+        let mut list =
+            self.killed("the program is killed in a box's first session", &made, COMBINATIONS_LATER, &plain, |_| {
+                script(&[&[Start], &takes(10..11), &TIDY])
+            });
+        list.extend(self.killed("the program is killed in a later session", &used, COMBINATIONS_LATER, &plain, |_| {
             script(&[&[Start], &takes(10..11)])
         }));
         list.extend(self.killed(
             "the program is killed while a card is copied and put in",
             &used,
+            COMBINATIONS_LONG,
             &[CopyCard("two"), SwapCard("two"), Start],
             |_| script(&[&[CopyCard("three"), SwapCard("three"), Start], &takes(10..11)]),
         ));
         list.extend(self.killed(
             "the program is killed while a card is changed",
             &used,
+            COMBINATIONS_LATER,
             &script(&[&[Start], &TIDY, &[SwapNew("two"), Checkpoint], &takes(8..9)]),
             |own| script(&[&[SwapCard(own), Start], &takes(10..11)]),
         ));
@@ -223,6 +233,7 @@ impl Bench {
         &mut self,
         about: &str,
         from: &Tree,
+        bound: usize,
         first: &[Command],
         second: impl Fn(&'static str) -> Vec<Command>,
     ) -> Vec<Session> {
@@ -234,13 +245,13 @@ impl Bench {
             let about = format!("{about}, behind {behind}");
             let mut history = self.fresh(Some(from));
             self.run(&mut history, first, &Fault::Kill(turn + 1));
-            let cut = history.events.len();
+            let cuts = Cuts::From(history.events.len());
             let second = second(self.own_card());
             let ended = self.run(&mut history, &second, &Fault::None);
             assert!(ended.status.success(), "{about}: {}{:?}", ended.errors, history.answers());
             let start = Some((table.clone(), FIRST_CARD.to_string()));
             let scripts = vec![first.to_vec(), second];
-            let session = Session { about, history, start, scripts, from: cut, bound: COMBINATIONS_LATER };
+            let session = Session { about, history, start, scripts, cuts, bound };
             sessions.push(self.recorded(session));
         }
         sessions
@@ -300,9 +311,9 @@ impl Bench {
             for turn in (1..).step_by(one_of) {
                 let mut history = self.fresh(from);
                 let ended = self.run(&mut history, first, &Fault::Fail(turn, word));
-                let Some((at, call)) = history.failed() else { break };
+                let Some(call) = history.failed() else { break };
                 // What did not come to the disk shows in a cut only.
-                let cut_from = if call.contains("sync") && word == "EIO" { at } else { usize::MAX };
+                let cuts = if call.contains("sync") && word == "EIO" { Cuts::Answers } else { Cuts::Never };
                 let about = format!("{word} at {call}, operation {turn} of {}", first[first.len() - 1].line());
                 let answers = history.answers();
                 let mut scripts = vec![first.to_vec()];
@@ -313,7 +324,7 @@ impl Bench {
                     scripts.push(second);
                 }
                 let start = from.map(|_| (Table::new(), FIRST_CARD.to_string()));
-                let session = Session { about, history, start, scripts, from: cut_from, bound: COMBINATIONS_FAILED };
+                let session = Session { about, history, start, scripts, cuts, bound: COMBINATIONS_LATER };
                 let session = self.recorded(session);
                 self.cut(&session);
                 self.losses.extend(unsaid(&session, &answers, &ended));
@@ -363,19 +374,13 @@ fn grouped(number: usize) -> String {
 #[test]
 fn what_was_reported_is_there_after_a_power_cut() {
     let mut bench = Bench::new("crash");
-    let t = std::time::Instant::now();
     let plain = bench.sessions();
     plain.iter().for_each(|session| bench.cut(session));
-    println!("plain {} {} {:?}", plain.len(), bench.states, t.elapsed());
     let later = bench.later_sessions();
     later.iter().for_each(|session| bench.cut(session));
-    println!("later {} {} {:?}", later.len(), bench.states, t.elapsed());
     let killed = bench.killed_sessions();
-    println!("killed {} {} {:?}", killed.len(), bench.states, t.elapsed());
     killed.iter().for_each(|session| bench.cut(session));
-    println!("killed {} {} {:?}", killed.len(), bench.states, t.elapsed());
     let failed = bench.fail();
-    println!("failed {} {} {:?}", failed, bench.states, t.elapsed());
     let sessions = plain.len() + later.len() + killed.len();
     assert!(bench.losses.is_empty(), "{} states are lost\n{}", bench.losses.len(), report(&bench.losses));
     println!(

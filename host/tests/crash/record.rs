@@ -114,13 +114,13 @@ impl History {
         self.events.iter().filter_map(said).collect()
     }
 
-    /// Where an operation was made to fail first, and which call it was.
-    pub fn failed(&self) -> Option<(usize, String)> {
-        let failed = |(at, (_, event)): (usize, &(u32, Event))| match event {
-            Event::Failed(call) => Some((at, call.clone())),
+    /// The call that was made to fail first.
+    pub fn failed(&self) -> Option<String> {
+        let failed = |(_, event): &(u32, Event)| match event {
+            Event::Failed(call) => Some(call.clone()),
             _ => None,
         };
-        self.events.iter().enumerate().find_map(failed)
+        self.events.iter().find_map(failed)
     }
 
     fn inode_of_top(&self) -> Inode {

@@ -42,6 +42,16 @@ impl Start {
 /// Whether a sync of a file or a folder counts.
 pub type Heeds<'a> = &'a dyn Fn(&Disk, Id) -> bool;
 
+/// When the power is cut.
+#[derive(Clone, Copy, Debug, PartialEq, Eq)]
+pub enum Cuts {
+    /// Behind every event from one on.
+    From(usize),
+    /// Behind every answer.
+    Answers,
+    Never,
+}
+
 /// A session, recorded.
 pub struct Session {
     /// What it is about.
@@ -51,8 +61,7 @@ pub struct Session {
     pub start: Option<(Table, String)>,
     /// The scripts of its runs of the program.
     pub scripts: Vec<Vec<Command>>,
-    /// The event from which on the power is cut.
-    pub from: usize,
+    pub cuts: Cuts,
     /// So many combinations of what is left are tried at a cut.
     pub bound: usize,
 }
@@ -73,6 +82,9 @@ pub struct Loss {
     pub what: String,
 }
 
+/// What was started from: a state, by its hash, with two cards in question, or with a copy put in.
+type Tried = (u64, Option<[String; 2]>, Option<String>);
+
 /// Where sessions are recorded, states built, and boxes started.
 pub struct Bench {
     pub place: Place,
@@ -80,8 +92,8 @@ pub struct Bench {
     pub top: PathBuf,
     recorder: Recorder,
     random: Random,
-    /// What starts came to: of a state, with two cards in question, with a copy put in.
-    known: HashMap<(u64, Option<[String; 2]>, Option<String>), Start>,
+    /// What starts came to.
+    known: HashMap<Tried, Start>,
     /// How many states were tried.
     pub states: usize,
     /// Some of them, to go on from: with what is in the table, and the card that is in.
@@ -153,7 +165,7 @@ impl Bench {
         };
         let mut disk = session.history.before.clone();
         let mut expected = Expected::new(session.start.as_ref(), &end);
-        let (mut scripts, mut cuts) = (session.scripts.iter(), 0);
+        let mut scripts = session.scripts.iter();
         for (at, (_, event)) in session.history.events.iter().enumerate() {
             match event {
                 Event::Sync(id) if !heeds(&disk, *id) => (),
@@ -162,9 +174,12 @@ impl Bench {
                 Event::Failed(_) => expected.fails(),
                 other => disk.follow(other),
             }
-            cuts += 1;
-            let passed_over = expected.is_long() && cuts % LONG != 0;
-            if at >= session.from && !passed_over && losses.len() < limit {
+            let cut = match session.cuts {
+                Cuts::From(from) => at >= from && (!expected.is_long() || at.is_multiple_of(LONG)),
+                Cuts::Answers => matches!(event, Event::Said(_)),
+                Cuts::Never => false,
+            };
+            if cut && losses.len() < limit {
                 self.cut_here(session, &disk, &expected, &mut losses);
             }
         }
