@@ -412,3 +412,31 @@ fn write(mut old: Vec<u8>, at: usize, bytes: &[u8], left: Left) -> Vec<u8> {
     old[at..at + kept].copy_from_slice(&bytes[..kept]);
     old
 }
+
+#[test]
+fn a_sync_of_a_file_and_one_of_its_folder_bring_it_to_the_disk() {
+    let mut random = Random(1);
+    let mut seen = |disk: &Disk| {
+        let trees = combinations(&disk.changes, 1000, &mut random).into_iter().map(|left| disk.tree(&left));
+        let bytes = |tree: Tree| tree.items.into_iter().find_map(|item| Some((item.path, item.file?.1.bytes.clone())));
+        trees.map(bytes).collect::<BTreeSet<Option<(PathBuf, Vec<u8>)>>>()
+    };
+    let is = |name: &str, bytes: &[u8]| Some((PathBuf::from(name), bytes.to_vec()));
+    let mut disk = Disk { nodes: Vec::new(), modes: Vec::new(), changes: Vec::new() };
+    disk.add_folder(0o755);
+    let file = disk.add_file(0o644);
+    disk.change(Change::Names { folder: TOP, set: vec![("a".to_string(), Some(file))] });
+    disk.change(Change::Write { file, at: 0, bytes: b"xyz".to_vec() });
+    let first = seen(&disk);
+    assert!([None, is("a", b""), is("a", b"xyz"), is("a", b"\0\0\0")].iter().all(|state| first.contains(state)));
+
+    let mut named = disk.clone();
+    named.sync(TOP);
+    assert!(!seen(&named).contains(&None) && seen(&named).contains(&is("a", b"")));
+    disk.sync(file);
+    assert_eq!(seen(&disk), BTreeSet::from([None, is("a", b"xyz")]));
+    disk.change(Change::Names { folder: TOP, set: vec![("a".to_string(), None), ("b".to_string(), Some(file))] });
+    assert_eq!(seen(&disk), BTreeSet::from([None, is("a", b"xyz"), is("b", b"xyz")]));
+    disk.sync(TOP);
+    assert_eq!(seen(&disk), BTreeSet::from([is("b", b"xyz")]));
+}

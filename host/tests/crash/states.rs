@@ -13,7 +13,7 @@ use crate::disk::{Disk, Id, Left, Random, Tree, combinations};
 use crate::place::Place;
 use crate::record::{Ended, Event, Fault, History, Recorder};
 use crate::script::{Command, Expected, Table, table};
-use crate::{AGAIN, GOES_ON, LONG, LOSSES, MORE};
+use crate::{AGAIN, FIRST_CARD, GOES_ON, LONG, LOSSES, MORE};
 
 /// What a start came to.
 #[derive(Clone, Debug)]
@@ -151,11 +151,11 @@ impl Bench {
 
     /// The power is cut at every moment of a session.
     pub fn cut(&mut self, session: &Session) {
-        let mut losses = self.losses_of(session, &|_, _| true, LOSSES);
+        let mut losses = self.losses_of(session, &|_, _| true, usize::MAX);
         self.losses.append(&mut losses);
     }
 
-    /// The states of a session from which the box does not start as it should, up to some number of them.
+    /// The states of a session from which the box does not start as it should. It is given up when there are so many.
     pub fn losses_of(&mut self, session: &Session, heeds: Heeds, limit: usize) -> Vec<Loss> {
         let mut losses = Vec::new();
         let whole = session.end().whole();
@@ -191,13 +191,24 @@ impl Bench {
 
     /// The power is cut here.
     fn cut_here(&mut self, session: &Session, disk: &Disk, expected: &Expected, losses: &mut Vec<Loss>) {
+        let command = expected.command().map_or("the end".to_string(), Command::line);
+        let place = format!("{}: in {command}", session.about);
+        let enough = losses.len() + LOSSES;
         for left in combinations(disk.changes(), session.bound * self.more, &mut self.random) {
-            let Some(wrong) = self.wrong(&disk.tree(&left), expected) else { continue };
-            let command = expected.command().map_or("the end".to_string(), Command::line);
+            let tree = disk.tree(&left);
+            let Some(wrong) = self.wrong(&tree, expected) else { continue };
+            let first_card = match self.start(&tree, None, Some(&FIRST_CARD.to_string())) {
+                Start::Table(..) => "the first card is taken".to_string(),
+                other => format!("with the first card {}", other.words()),
+            };
             let missing = disk.changes().iter().zip(&left).filter(|(_, left)| **left != Left::All);
             let missing: Vec<String> = missing.map(|(c, left)| format!("{} ({left:?})", disk.words(c))).collect();
-            let what = format!("{wrong}; of {} changes are missing: {}", left.len(), missing.join(", "));
-            losses.push(Loss { place: format!("{}: in {command}", session.about), what });
+            let missing = format!("missing of {} changes: {}", left.len(), missing.join(", "));
+            let what = format!("{wrong}; {first_card}; {missing}");
+            losses.push(Loss { place: place.clone(), what });
+            if losses.len() == enough {
+                break;
+            }
         }
     }
 
@@ -251,7 +262,7 @@ impl Bench {
         let kept = self.place.join("kept");
         fs::rename(&self.top, &kept).expect("put aside");
         let starts = |card: &&str| matches!(self.start(&tree, None, Some(&card.to_string())), Start::Table(..));
-        let own = ["box/card-1", "two"].into_iter().find(starts).unwrap_or("box/card-1");
+        let own = [FIRST_CARD, "two"].into_iter().find(starts).unwrap_or(FIRST_CARD);
         // It is not there where all was known.
         let _ = fs::remove_dir_all(&self.top);
         fs::rename(&kept, &self.top).expect("put back");
