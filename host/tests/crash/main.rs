@@ -188,7 +188,7 @@ impl Bench {
             let mut history = self.fresh(Some(&tree));
             let commands = script(&[&[Command::Start], &takes(200..201), &TIDY]);
             let ended = self.run(&mut history, &commands, &Fault::None);
-            assert!(ended.status.success(), "{about}: {}{:?}", ended.errors, history.answers());
+            self.losses.extend(stopped(&about, &history, &ended));
             let (start, scripts) = (Some((table, card)), vec![commands]);
             let session = Session { about, history, start, scripts, cuts: Cuts::From(0), bound: COMBINATIONS_LATER };
             sessions.push(self.recorded(session));
@@ -250,7 +250,7 @@ impl Bench {
             let cuts = Cuts::From(history.events.len());
             let second = second(self.own_card());
             let ended = self.run(&mut history, &second, &Fault::None);
-            assert!(ended.status.success(), "{about}: {}{:?}", ended.errors, history.answers());
+            self.losses.extend(stopped(&about, &history, &ended));
             let start = Some((table.clone(), FIRST_CARD.to_string()));
             let scripts = vec![first.to_vec(), second];
             let session = Session { about, history, start, scripts, cuts, bound };
@@ -258,6 +258,12 @@ impl Bench {
         }
         sessions
     }
+}
+
+/// What is wrong with the end of a run in which all should be done.
+fn stopped(about: &str, history: &History, ended: &Ended) -> Option<Loss> {
+    let what = format!("{}: {}{:?}", ended.status, ended.errors, history.answers());
+    (!ended.status.success()).then(|| Loss { place: format!("{about}: in the run behind it"), what })
 }
 
 /// The kinds of operations in a history: what each does, to which file or folder, with numbers left out; and the first of
@@ -322,7 +328,7 @@ impl Bench {
                 let second = second(if from.is_some() { self.own_card() } else { FIRST_CARD });
                 if !second.is_empty() {
                     let again = self.run(&mut history, &second, &Fault::None);
-                    assert!(again.status.success(), "{about}, then: {}{:?}", again.errors, history.answers());
+                    self.losses.extend(stopped(&about, &history, &again));
                     scripts.push(second);
                 }
                 let start = from.map(|_| (Table::new(), FIRST_CARD.to_string()));
