@@ -276,7 +276,7 @@ static mode_t mode_of(int flags, va_list rest)
         va_start(rest, flags);                                                                                                 \
         mode_t mode = mode_of(flags, rest);                                                                                    \
         va_end(rest);                                                                                                          \
-        return open_recorded(AT_FDCWD, path, flags, mode, NULL, 0);                                                                     \
+        return open_recorded(AT_FDCWD, path, flags, mode, NULL, 0);                                                            \
     }
 OPEN(open)
 OPEN(open64)
@@ -288,7 +288,7 @@ OPEN(open64)
         va_start(rest, flags);                                                                                                 \
         mode_t mode = mode_of(flags, rest);                                                                                    \
         va_end(rest);                                                                                                          \
-        return open_recorded(at, path, flags, mode, NULL, 0);                                                                           \
+        return open_recorded(at, path, flags, mode, NULL, 0);                                                                  \
     }
 OPENAT(openat)
 OPENAT(openat64)
