@@ -46,6 +46,8 @@ esac
 sh tools/lib.sh
 beside histories
 beside program
+beside crash
+beside faults
 beside boundary
 beside firmware
 rt staticlib test_sealed | tail -n 1
@@ -57,7 +59,7 @@ beside install
 sh tests/axioms.sh paviluko test_sealed test_cipher
 
 failed=
-for test in cipher sealed boundary firmware histories program install; do
+for test in cipher sealed boundary firmware histories program crash faults install; do
     shown "$test" || failed="$failed $test"
 done
 if [ -n "$failed" ]; then

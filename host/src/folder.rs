@@ -123,9 +123,6 @@ impl BoxFolder {
         let name = card_full.strip_prefix(&own).unwrap_or(&card_full);
         let name = name.to_str().filter(|name| !name.is_empty() && !name.contains('\n'));
         let name = name.ok_or_else(|| Fault::damaged(card, "no card can have this name"))?;
-        if !card_full.is_dir() {
-            return Err(Fault::damaged(card, "is not a folder"));
-        }
         Card::open(&card_full, self.disk)?.settle()?;
         files::replace(&self.dir, CARD, format!("{name}\n").as_bytes(), OPEN, self.disk)
     }

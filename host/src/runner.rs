@@ -217,11 +217,14 @@ impl Runner {
     /// Accept, Seal and Commit: takes a transaction on a lane and makes it visible. A record that does not read back is read
     /// again; where it never does, the box is started again, so that the lane goes on.
     pub fn take(&mut self, lane: u8, transaction: &[u8]) -> Result<Numbered, Stop> {
+        let open = self.is_open(lane);
         let accepted = self.accept(lane, transaction)?;
         let mut last = Stop::Off;
         for _ in 0..READS {
             match self.commit(accepted.position) {
                 Ok(()) => return Ok(accepted),
+                // Somebody accepted a record before it and has not made it visible: it is that one's turn.
+                Err(stop @ Stop::Refused(_)) if open => return Err(stop),
                 Err(stop @ (Stop::Refused(_) | Stop::Failed(_))) => last = stop,
                 Err(stop) => return Err(stop),
             }
@@ -352,6 +355,12 @@ impl Runner {
     /// The store from here at which the plug will be pulled.
     pub fn cut_set(&self) -> Option<(u64, Moment)> {
         self.plug.set
+    }
+
+    /// Whether a lane has a number that was handed out and is not visible.
+    fn is_open(&self, lane: u8) -> bool {
+        let Numbers { w, v, .. } = self.numbers();
+        w.get(usize::from(lane)) != v.get(usize::from(lane))
     }
 
     fn phase(&self) -> Option<Phase> {
@@ -510,6 +519,18 @@ mod tests {
         assert_eq!(latest(&runner), 1);
         assert_eq!(runner.take(0, &reading(2)).expect("taken").number, 3);
         assert_eq!(latest(&runner), 2);
+    }
+
+    #[test]
+    fn a_record_before_it_has_its_turn_first() {
+        let scratch = Scratch::new();
+        let mut runner = started(&scratch);
+        let first = runner.accept(0, &reading(1)).expect("accepted");
+        assert!(matches!(runner.take(0, &reading(2)), Err(Stop::Refused(Refusal { number: 11, .. }))));
+        runner.take(1, &reading(3)).expect("taken on another lane");
+        runner.commit(first.position).expect("visible");
+        runner.commit(first.position + 1).expect("visible");
+        assert_eq!(latest(&runner), 3);
     }
 
     #[test]

@@ -75,13 +75,13 @@ pub const SENTENCES: [Sentence; 15] = [
     },
     Sentence {
         number: 9,
-        means: "something on the card does not open: it is damaged, changed, another box's, or not there",
-        then: "Put the box's own card in and start again.",
+        means: "something on the card does not open: it is damaged, changed, another box's, sealed with another key, or not there",
+        then: "Put the box's own card in and start again. If it is in, the key may be wrong: put the box's own key back.",
     },
     Sentence {
         number: 10,
         means: "a record on the card is of an earlier epoch: it was sealed before a start of the box that began a new one",
-        then: "This is an old card or a mixed one: put the box's own card in and start again.",
+        then: "In service, take the reading anew. At a start, keep box, card and key as they are and call the office: the vault went back, or two boxes have one key.",
     },
     Sentence {
         number: 11,

@@ -232,14 +232,17 @@ expect 0 '' "$program" run box
 
 # The table without a session: data on standard output, all else on standard error.
 printf 'start\ntake 7 1772409600 5=1:1300 6=4:-2\n' | "$program" run box >"$log"
+cp -r box before
 "$program" table box --csv >"$place/out" 2>"$place/err"
 printf '%s\n' meter,code,reading,stamp,lane,number,medium,unit,utc 1,1,1,5,0,1,'cold water',l,1970-01-01T00:00:05Z \
     5,1,1300,1772409600,7,1,'cold water',l,2026-03-02T00:00:00Z 6,4,-2,1772409600,7,1,cooling,kWh,2026-03-02T00:00:00Z |
     diff - "$place/out" >&2 || fail 'paviluko table --csv: not the table'
 printf '%s\n' 'Box box, card box/card-1: 1 record, 1 checkpoint.' \
-    'in service after 15 stores; 1 record read from the card, 3 meters in the table' |
+    'The card is taken: 3 meters in the table. Vault and card stay as they are.' |
     diff - "$place/err" >&2 || fail 'paviluko table: not these notices'
 "$program" table box >"$place/out" 2>/dev/null
+diff -r box before >&2 || fail 'a look at the table changed the box'
+rm -r before
 printf 'start\ntable\n' | "$program" run box | tail -n +2 | diff - "$place/out" >&2 || fail 'paviluko table: not as table'
 mv box/card-1 lifted
 expect 1 'paviluko: failed: box/card-1: not found' "$program" table box

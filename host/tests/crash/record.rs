@@ -1,4 +1,4 @@
-//! The program run under the recorder (tests/program/crash/record.c), and what it did to a folder, in order.
+//! The program run under the recorder (tests/crash/record.c), and what it did to a folder, in order.
 
 use std::collections::HashMap;
 use std::ffi::OsStr;
@@ -12,7 +12,7 @@ use crate::disk::{Change, Disk, Id, Inode};
 const PROGRAM: &str = env!("CARGO_BIN_EXE_paviluko");
 /// The recorder's library; where it is not named, it is compiled here.
 const LIBRARY: &str = "PAVILUKO_RECORDER";
-const SOURCE: &str = concat!(env!("CARGO_MANIFEST_DIR"), "/../tests/program/crash/record.c");
+const SOURCE: &str = concat!(env!("CARGO_MANIFEST_DIR"), "/../tests/crash/record.c");
 /// Bytes of a record's head.
 const HEAD: usize = 80;
 

@@ -13,7 +13,7 @@ paviluko: a submeter collector's box on the bench
 
   paviluko new [--vault FILE] DIR   makes a box in the folder DIR: a vault, a key, an empty card
   paviluko run DIR [SCRIPT]         runs that box: commands from the terminal, a pipe or a file
-  paviluko table DIR [--csv]        starts that box and prints its table of latest readings
+  paviluko table DIR [--csv]        prints that box's table of latest readings, and stores nothing
   paviluko demo [DIR]               shows the main job on a new box, in DIR or a passing folder
   paviluko --version                prints the library's edition and the hash of its sources
   paviluko --help                   prints this; behind a command, what that command does
@@ -40,8 +40,9 @@ status is 1 if anything was refused or failed.
 ";
 
 const TABLE: &str = "\
-Starts the box in the folder DIR, as start does in a session, and prints the latest reading of every
-meter. Only the table goes to standard output; what else there is to say goes to standard error.
+Prints the latest reading of every meter of the box in the folder DIR. The card is read and judged
+as at a start, and refused alike; nothing is stored, so that vault and card stay as they are. Only
+the table goes to standard output; what else there is to say goes to standard error.
 
   --csv   prints it as meter,code,reading,stamp,lane,number,medium,unit,utc
 ";

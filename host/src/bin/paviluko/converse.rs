@@ -2,6 +2,8 @@
 
 use std::io::{self, BufRead, Read, Write};
 
+use paviluko_host::secret;
+
 use crate::answer::Answer;
 use crate::colour::Colours;
 use crate::complete;
@@ -68,11 +70,16 @@ pub fn at_terminal(session: &mut Session, editing: bool) -> io::Result<()> {
     }
 }
 
+/// The answer to a line. Where the box has no power behind it, nothing is left of the key below this frame.
 fn answer(session: &mut Session, line: Line) -> Answer {
-    match line {
+    let answer = match line {
         Some(text) => session.command(&text),
         None => Answer::failed(format!("a line of more than {LONGEST_LINE} bytes is no command")),
+    };
+    if !session.has_power() {
+        secret::wipe_stack();
     }
+    answer
 }
 
 /// The next line, or nothing at the end; a line that is too long is read over and is no text.

@@ -142,12 +142,12 @@ fn table(dir: &Path, csv: bool) -> io::Result<u8> {
     };
     let card = format!("Box {}, card {}.", screen::near(runner.folder().path()), screen::card(&runner));
     notice(Tone::Plain, card);
-    let started = match runner.start() {
-        Ok(started) => started,
+    let readings = match runner.look() {
+        Ok(readings) => readings,
         Err(stop) => return failed(stop),
     };
-    notice(Tone::Plain, session::in_service(&runner, &started));
-    let readings = runner.collector().map(|collector| collector.readings()).unwrap_or_default();
+    let meters = screen::count(readings.len(), "meter");
+    notice(Tone::Plain, format!("The card is taken: {meters} in the table. Vault and card stay as they are."));
     session::table(&readings, csv).print(&mut io::stdout(), Colours::of(&io::stdout()))?;
     Ok(FINE)
 }

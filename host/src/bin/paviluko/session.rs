@@ -43,6 +43,11 @@ impl Session {
         format!("Box {}, card {}.", screen::near(self.runner.folder().path()), screen::card(&self.runner))
     }
 
+    /// Whether the box has power: then the key is in memory.
+    pub fn has_power(&self) -> bool {
+        self.runner.collector().is_some()
+    }
+
     /// Does a command. An empty line and a line that begins with # have no answer.
     pub fn command(&mut self, line: &str) -> Answer {
         let words: Vec<&str> = line.split_whitespace().collect();

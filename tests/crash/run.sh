@@ -1,5 +1,5 @@
 #!/bin/sh
-# Whole sessions of the program paviluko under a recorder of its file operations (crash/record.c), with the power cut at every
+# Whole sessions of the program paviluko under a recorder of its file operations (record.c), with the power cut at every
 # moment of them, the program killed, and operations made to fail (host/tests/crash). A line each.
 # Run from the repository's top; the library is built before. PAVILUKO_LIB may name another folder with its archive.
 # PAVILUKO_CRASH=N makes the bounds N times greater, for a longer run.
@@ -21,9 +21,9 @@ quietly() {
     "$@" >"$log" 2>&1 || { cat "$log" >&2; exit 1; }
 }
 
-quietly gcc -std=c11 -O2 -Wall -Wextra -Werror -shared -fPIC -o "$place/record.so" tests/program/crash/record.c
+quietly gcc -std=c11 -O2 -Wall -Wextra -Werror -shared -fPIC -o "$place/record.so" tests/crash/record.c
 PAVILUKO_RECORDER=$place/record.so
 export PAVILUKO_RECORDER
-quietly cargo test --release --offline --locked --quiet -p paviluko_host --test crash -- --nocapture
-echo "program: $(grep -o 'crash states: .*' "$log")"
-echo "program: $(grep -o '[0-9]* of [0-9]* syncs .*' "$log")"
+quietly sh tools/cargo.sh test --release --quiet -p paviluko_host --test crash -- --nocapture
+echo "$(grep -o 'crash states: .*' "$log")"
+echo "crash states: $(grep -o '[0-9]* of [0-9]* syncs .*' "$log")"
