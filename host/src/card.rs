@@ -36,9 +36,6 @@ const RESERVE: &str = "reserve";
 /// Room for a checkpoint, two folders and `log` on a file system that gives each 16 KB.
 const RESERVE_LEN: usize = 65_536;
 
-/// A file that is written to see whether one can be; a temporary file by its name.
-const TRIAL: &str = ".trial.new";
-
 /// Bytes of a checkpoint's head.
 const HEAD_LEN: usize = 20;
 /// So many names are removed in one sweep; what is left then is left to the next.
@@ -154,11 +151,8 @@ impl Card {
     pub fn try_out(&self) -> Result<(), Fault> {
         whole(&self.dir, self.dir.names(|_| ())?)?;
         let folder = self.ensure(CHECKPOINTS)?;
-        for (folder, len) in [(&folder, FILE_LEN), (&self.dir, 1)] {
-            files::replace(folder, TRIAL, &vec![0; len], FILE_MODE, Disk::Quick)?;
-            folder.remove(TRIAL).map_err(Fault::unusable(folder.path()))?;
-        }
-        Ok(())
+        files::try_out(&folder, FILE_LEN)?;
+        files::try_out(&self.dir, 1)
     }
 
     /// Removes what no start asks for, as far as that can be done: checkpoints of a version below S, which is stored, what
@@ -176,7 +170,7 @@ impl Card {
 
     /// Keeps room for a start, where there is none kept yet; false where there is no room.
     pub fn keep_reserve(&self) -> bool {
-        self.dir.has(RESERVE) || files::replace(&self.dir, RESERVE, &[0; RESERVE_LEN], FILE_MODE, self.disk).is_ok()
+        self.dir.has(RESERVE) || files::replace(&self.dir, RESERVE, &[0; RESERVE_LEN], FILE_MODE, Disk::Quick).is_ok()
     }
 
     /// Gives up the room that was kept; false where none was.

@@ -139,6 +139,14 @@ pub fn replace(folder: &Dir, name: &str, bytes: &[u8], mode: u32, disk: Disk) ->
     folder.settle(disk)
 }
 
+/// Whether a file of a length can be written in a folder. Nothing is left of it, but what a cut leaves.
+pub fn try_out(folder: &Dir, len: usize) -> Result<(), Fault> {
+    let name = format!(".trial{UNFINISHED}");
+    let written = folder.create(&name, 0o600).and_then(|mut file| file.write_all(&vec![0; len]));
+    let removed = folder.remove(&name);
+    written.and(removed).map_err(Fault::unusable(folder.path()))
+}
+
 /// The folder that a path's last name stands in, and that name.
 pub fn place(path: &Path) -> Result<(Dir, &OsStr), Fault> {
     let name = path.file_name().ok_or_else(|| Fault::damaged(path, "no folder can have this name"))?;

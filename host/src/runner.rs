@@ -322,9 +322,10 @@ impl Runner {
         self.folder.put_in(folder)
     }
 
-    /// Copies the card that is in to a folder that is not there yet.
+    /// Copies the card that is in to a folder that is not there yet. S is read anew: a store that was reported as failed may
+    /// have been done.
     pub fn copy_card(&self, folder: &Path) -> Result<(), Fault> {
-        self.card()?.copy_to(folder, self.numbers().s)
+        self.card()?.copy_to(folder, self.folder.vault()?.numbers().s)
     }
 
     /// The card that is in; a fault where there is none.

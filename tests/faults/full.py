@@ -91,6 +91,7 @@ class Small:
 
 def no_room(answer):
     """A full card is reported with what to do."""
+    answer = " ".join(answer.split())
     if "no room" not in answer.lower():
         raise Wrong(f"a full card is not reported: {answer!r}")
     if not ADVICE.search(re.sub("(?i).*no room", "", answer, flags=re.S)):
@@ -282,7 +283,7 @@ def copy_without_room(small):
         with small.session() as session:
             small.serve(session, "before it")
             answer = session.ask(f"copy-card {other}/copy")
-            if "no room" not in answer:
+            if "no room" not in " ".join(answer.split()):
                 raise Wrong(f"a copy without room is not reported: {answer!r}")
             if left := os.listdir(other):
                 raise Wrong(f"a copy without room left {left}")

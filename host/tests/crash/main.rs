@@ -26,13 +26,15 @@ use script::{Command, Expected, Table, Take};
 use states::{Bench, Cuts, Loss, Session, Start};
 
 /// So many combinations of what is left are tried at a cut.
-const COMBINATIONS: usize = 64;
+const COMBINATIONS: usize = 24;
 /// The same in long sessions, and in those with much that is never synced.
 const COMBINATIONS_LONG: usize = 4;
 /// The same in sessions on what a cut, a kill or a failure has left.
-const COMBINATIONS_LATER: usize = 8;
+const COMBINATIONS_LATER: usize = 4;
 /// In a long command, one of so many cuts is made.
 const LONG: usize = 41;
+/// The same in sessions on what a cut or a kill has left.
+const ONE_OF: usize = 3;
 /// Of so many states, one is gone on with: started again, a transaction taken, and started again.
 const GOES_ON: usize = 8;
 /// Of so many states, one is where the program is run anew, and the power cut again.
@@ -190,7 +192,8 @@ impl Bench {
             let ended = self.run(&mut history, &commands, &Fault::None);
             self.losses.extend(stopped(&about, &history, &ended));
             let (start, scripts) = (Some((table, card)), vec![commands]);
-            let session = Session { about, history, start, scripts, cuts: Cuts::From(0), bound: COMBINATIONS_LATER };
+            let session =
+                Session { about, history, start, scripts, cuts: Cuts::SomeFrom(0), bound: COMBINATIONS_LATER };
             sessions.push(self.recorded(session));
         }
         sessions
@@ -247,7 +250,7 @@ impl Bench {
             let about = format!("{about}, behind {behind}");
             let mut history = self.fresh(Some(from));
             self.run(&mut history, first, &Fault::Kill(turn + 1));
-            let cuts = Cuts::From(history.events.len());
+            let cuts = Cuts::SomeFrom(history.events.len());
             let second = second(self.own_card());
             let ended = self.run(&mut history, &second, &Fault::None);
             self.losses.extend(stopped(&about, &history, &ended));

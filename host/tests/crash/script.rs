@@ -143,8 +143,9 @@ pub struct Expected {
     pub made: bool,
     /// What was reported as visible.
     book: Table,
-    /// Transactions that were begun and not reported: the first ones of them may be visible too.
-    open: Vec<Take>,
+    /// Transactions that were begun and not reported, each with the place of its command, or none where that is of a script
+    /// before this one: the first ones of them may be visible too.
+    open: Vec<(Option<usize>, Take)>,
     /// The card that is in: the one reported, or the one that is being put in.
     cards: Vec<String>,
     /// Two cards of which one is taken.
@@ -176,6 +177,7 @@ impl Expected {
     pub fn begin(&mut self, commands: &[Command]) {
         self.commands = commands.to_vec();
         (self.at, self.begun) = (0, 0);
+        self.open.iter_mut().for_each(|(place, _)| *place = None);
         self.begin_until(1);
     }
 
@@ -212,8 +214,8 @@ impl Expected {
             self.copies.clear();
         }
         match command {
-            Command::Take(take) | Command::Commit(_, take) => self.open.push(*take),
-            Command::TakeFile(takes, _) => self.open.extend(takes),
+            Command::Take(take) | Command::Commit(_, take) => self.open.push((Some(at), *take)),
+            Command::TakeFile(takes, _) => self.open.extend(takes.iter().map(|take| (Some(at), *take))),
             Command::SwapCard(card) => self.cards.push(card.to_string()),
             Command::SwapNew(card) | Command::SwapEmpty(card) => {
                 self.two = Some([self.cards[0].clone(), card.to_string()]);
@@ -240,27 +242,31 @@ impl Expected {
         match &self.commands[self.at] {
             Command::New => self.made = true,
             Command::Start => {
-                // What was open is settled by now: it is there, or it never will be. So is which card is the box's own.
+                // What was open before is settled by now: it is there, or it never will be. So is which card is the box's own.
                 self.two = None;
-                let end = &self.end;
-                for take in self.open.drain(..).filter(|take| end.values().any(|line| line.2 == take.stamp())) {
+                let (end, here) = (&self.end, self.at);
+                let before = self.open.extract_if(.., |(place, _)| place.is_none_or(|place| place < here));
+                for (_, take) in before.filter(|(_, take)| end.values().any(|line| line.2 == take.stamp())) {
                     take.enter(None, &mut self.book);
                 }
             }
             Command::Take(take) | Command::Commit(_, take) => {
-                self.open.retain(|other| other != take);
+                self.open.retain(|(_, other)| other != take);
                 take.enter(number_of(line), &mut self.book);
             }
             Command::TakeFile(takes, _) => {
-                self.open.retain(|take| !takes.contains(take));
+                self.open.retain(|(_, take)| !takes.contains(take));
                 takes.iter().for_each(|take| take.enter(None, &mut self.book));
             }
             Command::CopyCard(card) => {
                 self.copies.push(card.to_string());
                 self.folders.push(card.to_string());
             }
-            Command::SwapCard(card) | Command::SwapNew(card) | Command::SwapEmpty(card) => {
+            command @ (Command::SwapCard(card) | Command::SwapNew(card) | Command::SwapEmpty(card)) => {
                 self.folders.push(card.to_string());
+                if !matches!(command, Command::SwapCard(_)) {
+                    self.two = Some([self.cards[0].clone(), card.to_string()]);
+                }
                 self.cards = vec![card.to_string()];
             }
             Command::Checkpoint => self.two = None,
@@ -279,7 +285,7 @@ impl Expected {
         if is_same(table, &book) {
             return true;
         }
-        self.open.iter().any(|take| {
+        self.open.iter().any(|(_, take)| {
             take.enter(None, &mut book);
             is_same(table, &book)
         })

@@ -13,7 +13,7 @@ use crate::disk::{Disk, Id, Left, Random, Tree, combinations};
 use crate::place::Place;
 use crate::record::{Ended, Event, Fault, History, Recorder};
 use crate::script::{Command, Expected, Table, table};
-use crate::{AGAIN, FIRST_CARD, GOES_ON, LONG, LOSSES, MORE};
+use crate::{AGAIN, FIRST_CARD, GOES_ON, LONG, LOSSES, MORE, ONE_OF};
 
 /// What a start came to.
 #[derive(Clone, Debug)]
@@ -47,6 +47,8 @@ pub type Heeds<'a> = &'a dyn Fn(&Disk, Id) -> bool;
 pub enum Cuts {
     /// Behind every event from one on.
     From(usize),
+    /// Behind one of `ONE_OF` events from one on.
+    SomeFrom(usize),
     /// Behind every answer.
     Answers,
     Never,
@@ -176,6 +178,7 @@ impl Bench {
             }
             let cut = match session.cuts {
                 Cuts::From(from) => at >= from && (!expected.is_long() || at.is_multiple_of(LONG)),
+                Cuts::SomeFrom(from) => at >= from && at.is_multiple_of((ONE_OF / self.more).max(1)),
                 Cuts::Answers => matches!(event, Event::Said(_)),
                 Cuts::Never => false,
             };
