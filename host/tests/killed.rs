@@ -2,6 +2,7 @@
 //! and of the others at most the one that was being taken. The moments are drawn with a fixed seed.
 
 mod place;
+mod random;
 
 use std::collections::BTreeMap;
 use std::io::{Read, Write};
@@ -11,6 +12,7 @@ use std::thread;
 use std::time::{Duration, Instant};
 
 use place::Place;
+use random::Random;
 
 const ROUNDS: usize = 250;
 const TAKES: u64 = 400;
@@ -43,18 +45,6 @@ impl Take {
         for (meter, code, reading) in self.writes {
             table.insert(meter, (code, reading, self.stamp, self.lane, number));
         }
-    }
-}
-
-/// xorshift.
-struct Random(u64);
-
-impl Random {
-    fn below(&mut self, limit: u64) -> u64 {
-        self.0 ^= self.0 << 13;
-        self.0 ^= self.0 >> 7;
-        self.0 ^= self.0 << 17;
-        self.0 % limit
     }
 }
 
@@ -122,6 +112,11 @@ fn reported(text: &str) -> Vec<u64> {
     numbers
 }
 
+/// A moment within some microseconds.
+fn moment(random: &mut Random, within: usize) -> Duration {
+    Duration::from_micros(random.below(within) as u64)
+}
+
 /// The table after a start.
 fn table(folder: &Path) -> Table {
     let text = whole(folder, "start\ntable --csv\n");
@@ -142,7 +137,7 @@ fn what_was_reported_is_there() {
     assert!(made.success());
     let began = Instant::now();
     whole(&folder, "start\n");
-    let start = began.elapsed().as_micros() as u64;
+    let start = began.elapsed().as_micros() as usize;
 
     let mut random = Random(0x9e37_79b9_7f4a_7c15);
     let (mut kills, mut visible, mut between, mut stamp) = (0, 0, 0, 0);
@@ -151,12 +146,12 @@ fn what_was_reported_is_there() {
         let takes: Vec<Take> = (0..TAKES).map(|at| Take::new(stamp + at, &mut random)).collect();
         stamp += TAKES;
         // Half of the moments lie about the start, half in service.
-        let after = random.below(start * if round % 2 == 0 { 2 } else { 12 });
-        let numbers = reported(&killed(&folder, &script(&takes), Duration::from_micros(after)));
+        let after = moment(&mut random, start * if round % 2 == 0 { 2 } else { 12 });
+        let numbers = reported(&killed(&folder, &script(&takes), after));
         kills += 1;
         // Starts that are killed too.
         for _ in 0..random.below(3) {
-            reported(&killed(&folder, "start\n", Duration::from_micros(random.below(start * 3 / 2))));
+            reported(&killed(&folder, "start\n", moment(&mut random, start * 3 / 2)));
             kills += 1;
         }
         for (take, &number) in takes.iter().zip(&numbers) {

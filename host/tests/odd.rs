@@ -2,6 +2,7 @@
 //! damaged card is refused, or the table is right.
 
 mod place;
+mod random;
 
 use std::fs;
 use std::io::Write;
@@ -14,25 +15,14 @@ use paviluko_host::runner::{Runner, Stop};
 use paviluko_host::{Reading, transaction};
 
 use place::Place;
+use random::Random;
 
 const SCRIPTS: usize = 60;
 const LINES: usize = 80;
 const CARDS: usize = 1500;
 
-/// xorshift.
-struct Random(u64);
-
-impl Random {
-    fn below(&mut self, limit: usize) -> usize {
-        self.0 ^= self.0 << 13;
-        self.0 ^= self.0 >> 7;
-        self.0 ^= self.0 << 17;
-        (self.0 % limit as u64) as usize
-    }
-
-    fn pick<'a, T>(&mut self, list: &'a [T]) -> &'a T {
-        &list[self.below(list.len())]
-    }
+fn pick<'a, T>(random: &mut Random, list: &'a [T]) -> &'a T {
+    &list[random.below(list.len())]
 }
 
 /// A line of a script: often a command, often a wrong one.
@@ -88,10 +78,10 @@ fn line(random: &mut Random) -> String {
         "\u{fffd}é",
     ];
     if random.below(3) > 0 {
-        return random.pick(&LINES).to_string();
+        return pick(random, &LINES).to_string();
     }
     let count = random.below(7);
-    (0..count).map(|_| *random.pick(&WORDS)).collect::<Vec<&str>>().join(" ")
+    (0..count).map(|_| *pick(random, &WORDS)).collect::<Vec<&str>>().join(" ")
 }
 
 /// The files below a folder, in order.
@@ -115,7 +105,7 @@ fn damage(folder: &Path, random: &mut Random) {
     if all.is_empty() {
         return;
     }
-    let (path, other) = (random.pick(&all).clone(), random.pick(&all).clone());
+    let (path, other) = (pick(random, &all).clone(), pick(random, &all).clone());
     let mut bytes = fs::read(&path).expect("read");
     match random.below(7) {
         0 | 1 if !bytes.is_empty() => {
@@ -216,7 +206,7 @@ fn a_damaged_card_is_refused_or_the_table_is_right() {
         let card = folder.join("card-1");
         // Sometimes with a file of last spring's card.
         if random.below(4) == 0 {
-            let old = random.pick(&files(&spring)).clone();
+            let old = pick(&mut random, &files(&spring)).clone();
             let to = card.join(old.strip_prefix(&spring).expect("below"));
             if to.parent().is_some_and(Path::is_dir) {
                 fs::copy(&old, to).expect("copied");

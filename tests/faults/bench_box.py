@@ -28,6 +28,19 @@ LIMITS = {
 }
 # What a program says that did not expect something.
 PANIC = re.compile(r"panicked|RUST_BACKTRACE|overflowed its stack|memory allocation of|core dumped")
+# Readings behind a checkpoint that a truncation followed, and readings above it; and what the table then has.
+READINGS = [
+    "start",
+    "take 0 1000 1=1:10 2=2:20",
+    "take 1 1001 3=3:30",
+    "take 2 1002 4=4:40",
+    "point",
+    "checkpoint",
+    "truncate",
+    "take 0 1100 1=1:11",
+    "take 3 1101 5=1:50",
+]
+KNOWN = {1: 11, 2: 20, 3: 30, 4: 40, 5: 50}
 # The user that has no right to anything.
 NOBODY = 65534
 # Set where the mounts are this test's own.

@@ -21,18 +21,8 @@ from bench_box import Session, Wrong, checkpoints, position, readings, remove, t
 # A card of 50 blocks.
 SMALL = "200k"
 BLOCK = 4096
-SETUP = [
-    "start",
-    "take 0 1000 1=1:10 2=2:20",
-    "take 1 1001 3=3:30",
-    "take 2 1002 4=4:40",
-    "point",
-    "checkpoint",
-    "truncate",
-    "take 0 1100 1=1:11",
-    "take 3 1101 5=1:50",
-]
-KNOWN = {1: 11, 2: 20, 3: 30, 4: 40, 5: 50}
+SETUP = bench_box.READINGS
+KNOWN = bench_box.KNOWN
 # What a person can do about a full card.
 ADVICE = re.compile("delet|remov|clear|free|larger|bigger|(other|another|new|change the) card|swap|copy|tidy|truncate")
 

@@ -19,19 +19,8 @@ import bench_box
 from bench_box import Session, Wrong, around, copy, position, remove, same, text_of, write
 
 # Readings behind a checkpoint that a truncation followed, readings above it, and a record that is not visible.
-GOOD = [
-    "start",
-    "take 0 1000 1=1:10 2=2:20",
-    "take 1 1001 3=3:30",
-    "take 2 1002 4=4:40",
-    "point",
-    "checkpoint",
-    "truncate",
-    "take 0 1100 1=1:11",
-    "take 3 1101 5=1:50",
-    "accept 4 1102 6=1:60",
-]
-KNOWN = {1: 11, 2: 20, 3: 30, 4: 40, 5: 50}
+GOOD = bench_box.READINGS + ["accept 4 1102 6=1:60"]
+KNOWN = bench_box.KNOWN
 # A reading that is taken in service.
 TAKE = "take 1 2000 200=1:77"
 TOP = (1 << 64) - 1

@@ -14,6 +14,8 @@ use std::os::unix::fs::{DirBuilderExt, MetadataExt, OpenOptionsExt};
 use std::path::{Path, PathBuf};
 use std::rc::Rc;
 
+use crate::random::Random;
+
 /// A file or a folder. The first is the folder that holds all.
 pub type Id = usize;
 pub const TOP: Id = 0;
@@ -93,18 +95,6 @@ impl Change {
             (Change::Write { .. }, 4) => Left::Zeros(0),
             _ => Left::All,
         }
-    }
-}
-
-/// xorshift.
-pub struct Random(pub u64);
-
-impl Random {
-    fn below(&mut self, limit: usize) -> usize {
-        self.0 ^= self.0 << 13;
-        self.0 ^= self.0 >> 7;
-        self.0 ^= self.0 << 17;
-        (self.0 % limit as u64) as usize
     }
 }
 

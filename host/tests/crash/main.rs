@@ -12,6 +12,8 @@
 mod disk;
 #[path = "../place/mod.rs"]
 mod place;
+#[path = "../random/mod.rs"]
+mod random;
 mod record;
 mod script;
 mod states;

@@ -9,8 +9,9 @@ use paviluko_host::files::Disk as Waits;
 use paviluko_host::runner::Runner;
 use paviluko_host::transaction::{self, Write};
 
-use crate::disk::{Disk, Id, Left, Random, Tree, combinations};
+use crate::disk::{Disk, Id, Left, Tree, combinations};
 use crate::place::Place;
+use crate::random::Random;
 use crate::record::{Ended, Event, Fault, History, Recorder};
 use crate::script::{Command, Expected, Table, table};
 use crate::{AGAIN, FIRST_CARD, GOES_ON, LONG, LOSSES, MORE, ONE_OF};
