@@ -27,6 +27,8 @@ use crate::limits::{FILE_LEN, LOG_LEN, RECORD_LEN};
 
 /// The file that names the generation.
 const LOG: &str = "log";
+/// What stands in it, before the number.
+const GENERATION: &str = "generation ";
 /// The folder of checkpoints.
 const CHECKPOINTS: &str = "checkpoints";
 /// What a folder of records is called, before its generation.
@@ -254,25 +256,29 @@ impl Card {
 
     /// Copies the records of the generation in force, `log`, and the checkpoint.
     fn copy_files(&self, copy: &Card, s: u64) -> Result<(), Fault> {
-        let generation = readable(self.generation())?.unwrap_or_default();
-        if let Some(records) = readable(self.folder_of(generation))?.flatten() {
-            let to = copy.ensure(&records_name(generation))?;
-            let mut room = LOG_LEN + 1;
-            for position in self.positions(generation)? {
-                let bytes = records.read(name_of(position), room)?.unwrap_or_default();
-                files::replace(&to, &name_of(position), &bytes, FILE_MODE, copy.disk)?;
-                room -= bytes.len();
-                if room == 0 {
-                    break;
-                }
-            }
+        if let Some(generation) = readable(self.generation())? {
+            self.copy_records(copy, generation)?;
+            files::replace(&copy.dir, LOG, &log_line(generation), FILE_MODE, copy.disk)?;
         }
         let checkpoint = self.checkpoint(s)?;
         if !checkpoint.is_empty() {
             copy.write_checkpoint(&checkpoint)?;
         }
-        if let Ok(Some(line)) = self.dir.read(LOG, 64) {
-            files::replace(&copy.dir, LOG, &line, FILE_MODE, copy.disk)?;
+        Ok(())
+    }
+
+    /// Copies a generation's records, or as many as are too long for any log.
+    fn copy_records(&self, copy: &Card, generation: u64) -> Result<(), Fault> {
+        let Some(from) = readable(self.folder_of(generation))?.flatten() else { return Ok(()) };
+        let to = copy.ensure(&records_name(generation))?;
+        let mut room = LOG_LEN + 1;
+        for position in self.positions(generation)? {
+            let bytes = from.read(name_of(position), room)?.unwrap_or_default();
+            files::replace(&to, &name_of(position), &bytes, FILE_MODE, copy.disk)?;
+            room -= bytes.len();
+            if room == 0 {
+                break;
+            }
         }
         Ok(())
     }
@@ -281,7 +287,7 @@ impl Card {
     fn generation(&self) -> Result<u64, Fault> {
         let Some(bytes) = self.dir.read(LOG, 64)? else { return Ok(0) };
         let text = String::from_utf8_lossy(&bytes);
-        let number = text.strip_prefix("generation ").and_then(|rest| rest.strip_suffix('\n')?.parse().ok());
+        let number = text.strip_prefix(GENERATION).and_then(|rest| rest.strip_suffix('\n')?.parse().ok());
         number.ok_or_else(|| Fault::damaged(&self.folder().join(LOG), "damaged, it names no generation"))
     }
 
@@ -304,10 +310,12 @@ impl Card {
     /// Makes a new generation with the kept records of the one in force, puts it in force, and sweeps the others.
     fn switch(&self, from: u64, kept: &[u64]) -> Result<(), Fault> {
         let (next, new) = self.next_generation(from)?;
-        if let Some(old) = self.folder_of(from).ok().flatten() {
+        if !kept.is_empty()
+            && let Some(old) = readable(self.folder_of(from))?.flatten()
+        {
             self.keep(&old, &new, kept)?;
         }
-        files::replace(&self.dir, LOG, format!("generation {next}\n").as_bytes(), FILE_MODE, self.disk)?;
+        files::replace(&self.dir, LOG, &log_line(next), FILE_MODE, self.disk)?;
         // The store is done. What cannot be swept now is read by nobody, and is tried again the next time.
         self.sweep_generations(next);
         Ok(())
@@ -348,24 +356,18 @@ impl Card {
     }
 
     /// Removes all records that are not of a generation, and what a cut left of a store.
-    fn sweep_generations(&self, generation: u64) {
-        let mut left = MOST_REMOVED;
+    fn sweep_generations(&self, in_force: u64) {
+        remove_some(&self.dir, MOST_REMOVED, files::is_unfinished);
         let mut found = Vec::new();
-        let _ = self.dir.names(|name| {
-            let folder = name.to_str().is_some_and(|name| name.starts_with(RECORDS));
-            if found.len() < MOST_REMOVED && (folder || files::is_unfinished(name)) {
-                found.push(name.to_os_string());
-            }
-        });
-        let in_force = records_name(generation);
-        for name in found {
-            let folder = self.dir.folder(&name).ok().flatten();
-            let all = name != OsStr::new(&in_force);
-            if let Some(folder) = folder {
-                left -= remove_some(&folder, left, |file| all || files::is_unfinished(file));
+        let _ = self.dir.names(|name| found.extend(generation_of(name).filter(|_| found.len() < MOST_REMOVED)));
+        let mut left = MOST_REMOVED;
+        for generation in found {
+            let all = generation != in_force;
+            if let Ok(Some(folder)) = self.folder_of(generation) {
+                left -= remove_some(&folder, left, |name| all || files::is_unfinished(name));
             }
             if all {
-                let _ = self.dir.remove(&name);
+                let _ = self.dir.remove(records_name(generation));
             }
         }
     }
@@ -403,6 +405,17 @@ fn whole(folder: &Dir, listed: Listed) -> Result<(), Fault> {
 /// What a generation's folder is called.
 fn records_name(generation: u64) -> String {
     format!("{RECORDS}{generation}")
+}
+
+/// The generation that a folder is called by.
+fn generation_of(name: &OsStr) -> Option<u64> {
+    let number = name.to_str()?.strip_prefix(RECORDS)?.parse().ok()?;
+    (*name == *records_name(number)).then_some(number)
+}
+
+/// What `log` has in it.
+fn log_line(generation: u64) -> Vec<u8> {
+    format!("{GENERATION}{generation}\n").into_bytes()
 }
 
 /// A number in 20 digits.
