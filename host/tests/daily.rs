@@ -79,10 +79,10 @@ fn ten_thousand_starts() {
             Err(stop) => panic!("start {start}: {stop}"),
         }
         let now = size(&card);
+        assert!(now.0 <= MOST_FILES && now.1 <= MOST_BYTES, "start {start}: {now:?}");
         most = (most.0.max(now.0), most.1.max(now.1));
     }
     assert!(cuts > STARTS / 4);
-    assert!(most.0 <= MOST_FILES && most.1 <= MOST_BYTES, "{most:?}");
     println!("{STARTS} starts, {cuts} of them cut: at most {} files with {} bytes on the card", most.0, most.1);
 }
 
@@ -96,6 +96,8 @@ fn a_hundred_thousand_transactions() {
         if turn % 997 == 0 {
             assert_eq!(latest(&runner, turn), Some(turn));
             let now = size(&card);
+            assert!(now.0 <= MOST_FILES + RECORDS, "transaction {turn}: {now:?}");
+            assert!(now.1 <= MOST_BYTES + (RECORDS * RECORD_LEN) as u64, "transaction {turn}: {now:?}");
             most = (most.0.max(now.0), most.1.max(now.1));
         }
     }
@@ -103,6 +105,5 @@ fn a_hundred_thousand_transactions() {
     for turn in TRANSACTIONS - 255..=TRANSACTIONS {
         assert_eq!(latest(&runner, turn), Some(turn));
     }
-    assert!(most.0 <= MOST_FILES + RECORDS && most.1 <= MOST_BYTES + (RECORDS * RECORD_LEN) as u64, "{most:?}");
     println!("{TRANSACTIONS} transactions: at most {} files with {} bytes on the card", most.0, most.1);
 }
