@@ -108,6 +108,8 @@ impl Card {
 
     /// Store: writes a record at a position.
     pub fn write_record(&self, position: u64, bytes: &[u8]) -> Result<(), Fault> {
+        #[cfg(test)]
+        let bytes = &files::medium::written(bytes);
         let records = self.ensure(&records_name(self.generation()?))?;
         files::replace(&records, &name_of(position), bytes, FILE_MODE, self.disk)
     }
@@ -124,6 +126,13 @@ impl Card {
         #[cfg(test)]
         let bytes = files::medium::read(bytes);
         Ok(bytes)
+    }
+
+    /// Removes the record at a position, which is not visible and does not open.
+    pub fn drop_record(&self, position: u64) -> Result<(), Fault> {
+        let Some(records) = self.folder_of(self.generation()?)? else { return Ok(()) };
+        records.clear(name_of(position)).map_err(Fault::unusable(&records.path().join(name_of(position))))?;
+        records.settle(self.disk)
     }
 
     /// Store: writes a checkpoint. The others of its version are not asked for any more.

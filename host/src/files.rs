@@ -232,22 +232,36 @@ pub mod power {
 
 #[cfg(test)]
 pub mod medium {
-    //! A medium of a test that reads badly some times.
+    //! A medium of a test that reads or writes records badly some times.
 
     use std::cell::Cell;
 
     thread_local! {
-        static BAD: Cell<u32> = const { Cell::new(0) };
+        static READS: Cell<u32> = const { Cell::new(0) };
+        static WRITES: Cell<u32> = const { Cell::new(0) };
     }
 
     /// So many times from here a record is read with a wrong bit.
     pub fn reads_badly(times: u32) {
-        BAD.set(times);
+        READS.set(times);
     }
 
-    pub fn read(mut bytes: Vec<u8>) -> Vec<u8> {
-        if BAD.get() > 0 {
-            BAD.set(BAD.get() - 1);
+    /// So many times from here a record is written with a wrong bit.
+    pub fn writes_badly(times: u32) {
+        WRITES.set(times);
+    }
+
+    pub fn read(bytes: Vec<u8>) -> Vec<u8> {
+        READS.with(|left| passed_on(left, bytes))
+    }
+
+    pub fn written(bytes: &[u8]) -> Vec<u8> {
+        WRITES.with(|left| passed_on(left, bytes.to_vec()))
+    }
+
+    fn passed_on(left: &Cell<u32>, mut bytes: Vec<u8>) -> Vec<u8> {
+        if left.get() > 0 {
+            left.set(left.get() - 1);
             if let Some(last) = bytes.last_mut() {
                 *last ^= 1;
             }

@@ -99,17 +99,22 @@ impl fmt::Display for Stop {
             }
             Stop::Failed(fault) => write!(to, "failed: {fault}"),
             Stop::Unread { position, why, start } => {
+                let why = match &**why {
+                    Stop::Refused(refusal) => format!("refused: {}", refusal.number),
+                    other => other.to_string(),
+                };
                 write!(to, "failed: the record at position {position} does not read back from the card ({why}). ")?;
+                write!(to, "Its readings are not visible. The box was started again")?;
                 match start {
                     Ok(started) => {
                         let stores = started.stores;
                         write!(
                             to,
-                            "Its reading is not visible. The box was started again and is in service after {stores} stores: "
+                            " and is in service after {stores} stores: take them anew, and change the card if "
                         )?;
-                        write!(to, "take the reading anew, and change the card if this comes again")
+                        write!(to, "this comes again")
                     }
-                    Err(stop) => write!(to, "Its reading is not visible. The box was started again: {stop}"),
+                    Err(stop) => write!(to, ": {stop}"),
                 }
             }
         }
@@ -215,7 +220,8 @@ impl Runner {
     }
 
     /// Accept, Seal and Commit: takes a transaction on a lane and makes it visible. A record that does not read back is read
-    /// again; where it never does, the box is started again, so that the lane goes on.
+    /// again. Where it never does, it is removed, since no start takes a card with a record that does not open; and the box is
+    /// started again, so that the lane goes on.
     pub fn take(&mut self, lane: u8, transaction: &[u8]) -> Result<Numbered, Stop> {
         let open = self.is_open(lane);
         let accepted = self.accept(lane, transaction)?;
@@ -229,8 +235,10 @@ impl Runner {
                 Err(stop) => return Err(stop),
             }
         }
-        let start = self.start().map_err(Box::new);
-        Err(Stop::Unread { position: accepted.position, why: Box::new(last), start })
+        let position = accepted.position;
+        let removed = self.card().and_then(|card| card.drop_record(position)).map_err(Stop::Failed);
+        let start = removed.and_then(|()| self.start()).map_err(Box::new);
+        Err(Stop::Unread { position, why: Box::new(last), start })
     }
 
     /// The same, where room is made for it if the box holds as many records as it can; and what was done for that.
@@ -476,7 +484,7 @@ impl Runner {
 #[cfg(test)]
 mod tests {
     use super::*;
-    use crate::files::medium::reads_badly;
+    use crate::files::medium::{reads_badly, writes_badly};
     use crate::files::scratch::Scratch;
     use crate::limits::RECORDS;
     use crate::transaction::{self, Write};
@@ -514,12 +522,21 @@ mod tests {
         let scratch = Scratch::new();
         let mut runner = started(&scratch);
         runner.take(0, &reading(1)).expect("taken");
-        reads_badly(READS as u32);
-        let Err(stop) = runner.take(0, &reading(2)) else { panic!("taken") };
-        assert!(matches!(stop, Stop::Unread { position: 1, start: Ok(Started { stores: 24, .. }), .. }), "{stop}");
-        assert_eq!(latest(&runner), 1);
-        assert_eq!(runner.take(0, &reading(2)).expect("taken").number, 3);
-        assert_eq!(latest(&runner), 2);
+        for turn in 2..4 {
+            // The first time it is read badly, the second time it stands badly on the card.
+            if turn == 2 {
+                reads_badly(READS as u32);
+            } else {
+                writes_badly(1);
+            }
+            let Err(stop) = runner.take(0, &reading(9)) else { panic!("taken") };
+            assert!(matches!(stop, Stop::Unread { start: Ok(Started { stores: 24, .. }), .. }), "{stop}");
+            assert_eq!(latest(&runner), turn - 1);
+            runner.take(0, &reading(turn)).expect("taken");
+            assert_eq!(latest(&runner), turn);
+        }
+        runner.start().expect("started");
+        assert_eq!(latest(&runner), 3);
     }
 
     #[test]
