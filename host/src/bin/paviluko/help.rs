@@ -1,6 +1,7 @@
 //! The commands of a session, as help lists them.
 
 use paviluko_host::files::clean;
+use paviluko_host::identity;
 
 use crate::answer::Answer;
 use crate::near;
@@ -90,6 +91,18 @@ pub fn of(name: &str) -> Answer {
     if lines.is_empty() { unknown(name) } else { Answer::fine(lines) }
 }
 
+/// Help or the version, where one of their options stands among the words of a command, or in its place.
+pub fn wanted(words: &[&str]) -> Option<Answer> {
+    let has = |options: [&str; 2]| words.iter().any(|word| options.contains(word));
+    if has(["--help", "-h"]) {
+        return Some(match words.first() {
+            Some(name) if !name.starts_with('-') => of(name),
+            _ => Answer::fine(all()),
+        });
+    }
+    has(["--version", "-V"]).then(|| Answer::fine(identity::lines(identity::edition(), identity::sources())))
+}
+
 /// A command that is none, or is not written as it should be.
 pub fn wrong(name: &str) -> Answer {
     let ways: Vec<&str> = ENTRIES.iter().filter(|entry| entry.name() == name).map(|entry| entry.form).collect();
@@ -139,6 +152,15 @@ mod tests {
             assert!(width(line) <= WIDTH, "{line}");
         }
         assert!(ENTRIES.iter().all(|entry| entry.form.len() < COLUMN));
+    }
+
+    #[test]
+    fn help_and_version_answer_everywhere() {
+        for line in ["--help", "-h", "take 0 --help", "swap-card --new -h", "nothing --help", "take --version", "-V"] {
+            let words: Vec<&str> = line.split_whitespace().collect();
+            assert!(wanted(&words).is_some_and(|answer| answer.failed == line.starts_with("nothing")), "{line}");
+        }
+        assert!(wanted(&["take", "0", "1", "2=1:3"]).is_none());
     }
 
     #[test]

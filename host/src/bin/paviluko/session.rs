@@ -55,7 +55,7 @@ impl Session {
         if name.starts_with('#') {
             return Answer::default();
         }
-        if let Some(answer) = help::bad_option(name, rest) {
+        if let Some(answer) = help::wanted(&words).or_else(|| help::bad_option(name, rest)) {
             return answer;
         }
         let done = match (name, rest) {
