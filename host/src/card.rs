@@ -101,9 +101,22 @@ impl Card {
         Ok(records_name(self.generation()?))
     }
 
-    /// Brings to the disk what is found on it, whoever wrote it and never waited for that.
+    /// Brings to the disk what is found on it, whoever wrote it and never waited for that: its files, its folders, and its own
+    /// name where it lies.
     pub fn settle(&self) -> Result<(), Fault> {
-        self.dir.settle_all(self.disk)
+        self.dir.settle_all(self.disk)?;
+        let records = readable(self.generation())?.map(records_name);
+        for name in records.iter().map(String::as_str).chain([CHECKPOINTS]) {
+            if let Some(folder) = readable(self.dir.folder(name))?.flatten() {
+                folder.settle(self.disk)?;
+            }
+        }
+        self.dir.settle(self.disk)?;
+        match files::place(self.folder()) {
+            Ok((above, _)) => above.settle(self.disk),
+            // A folder that cannot be looked into is not ours to settle.
+            Err(_) => Ok(()),
+        }
     }
 
     /// Store: writes a record at a position.
@@ -251,9 +264,7 @@ impl Card {
         // A name of its own until it is complete; what a cut leaves of it is in nobody's way.
         let unfinished = format!(".{}.{}.new", name.to_string_lossy(), std::process::id());
         let copy = || -> Result<(), Fault> {
-            let copy = Card::create(&folder.with_file_name(&unfinished), Disk::Quick)?;
-            self.copy_files(&copy, s)?;
-            copy.dir.settle_all(self.disk)?;
+            self.copy_files(&Card::create(&folder.with_file_name(&unfinished), self.disk)?, s)?;
             above.rename(&unfinished, name).map_err(Fault::unusable(folder))?;
             above.settle(self.disk)
         };
@@ -267,13 +278,13 @@ impl Card {
     fn copy_files(&self, copy: &Card, s: u64) -> Result<(), Fault> {
         if let Some(generation) = readable(self.generation())? {
             self.copy_records(copy, generation)?;
-            files::replace(&copy.dir, LOG, &log_line(generation), FILE_MODE, copy.disk)?;
+            files::put(&copy.dir, LOG, &log_line(generation), FILE_MODE, copy.disk)?;
         }
         let checkpoint = self.checkpoint(s)?;
         if !checkpoint.is_empty() {
             copy.write_checkpoint(&checkpoint)?;
         }
-        Ok(())
+        copy.dir.settle(copy.disk)
     }
 
     /// Copies a generation's records, or as many as are too long for any log.
@@ -283,13 +294,13 @@ impl Card {
         let mut room = LOG_LEN + 1;
         for position in self.positions(generation)? {
             let bytes = from.read(name_of(position), room)?.unwrap_or_default();
-            files::replace(&to, &name_of(position), &bytes, FILE_MODE, copy.disk)?;
+            files::put(&to, &name_of(position), &bytes, FILE_MODE, copy.disk)?;
             room -= bytes.len();
             if room == 0 {
                 break;
             }
         }
-        Ok(())
+        to.settle(copy.disk)
     }
 
     /// The generation in force.
@@ -332,18 +343,16 @@ impl Card {
 
     /// Puts records of one generation's folder into another's, and brings them to the disk.
     fn keep(&self, old: &Dir, new: &Dir, kept: &[u64]) -> Result<(), Fault> {
-        let mut copied = false;
         for &position in kept {
             let name = name_of(position);
             // A second name for the same file; a copy where the card's file system has no second names.
             if old.link(&name, new).is_err()
                 && let Some(bytes) = readable(old.read(&name, LOG_LEN))?.flatten()
             {
-                files::replace(new, &name, &bytes, FILE_MODE, Disk::Quick)?;
-                copied = true;
+                files::put(new, &name, &bytes, FILE_MODE, self.disk)?;
             }
         }
-        if copied { new.settle_all(self.disk) } else { new.settle(self.disk) }
+        new.settle(self.disk)
     }
 
     /// A new folder of records behind a generation: the first name that is not taken.

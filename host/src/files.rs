@@ -112,6 +112,12 @@ fn plain(error: &io::Error) -> String {
 
 /// Writes a file whole or not at all.
 pub fn replace(folder: &Dir, name: &str, bytes: &[u8], mode: u32, disk: Disk) -> Result<(), Fault> {
+    put(folder, name, bytes, mode, disk)?;
+    folder.settle(disk)
+}
+
+/// The same, where the folder is settled later: until then the old file may come back in a cut.
+pub fn put(folder: &Dir, name: &str, bytes: &[u8], mode: u32, disk: Disk) -> Result<(), Fault> {
     let first = format!(".{name}{UNFINISHED}");
     let write = || -> io::Result<()> {
         let mut file = folder.create(&first, mode)?;
@@ -131,12 +137,11 @@ pub fn replace(folder: &Dir, name: &str, bytes: &[u8], mode: u32, disk: Disk) ->
             other => other,
         }
     };
-    if let Err(error) = write() {
+    write().map_err(|error| {
         // What is there of it takes up room.
         let _ = folder.remove(&first);
-        return Err(Fault::unusable(&folder.path().join(name))(error));
-    }
-    folder.settle(disk)
+        Fault::unusable(&folder.path().join(name))(error)
+    })
 }
 
 /// Whether a file of a length can be written in a folder. Nothing is left of it, but what a cut leaves.

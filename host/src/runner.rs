@@ -330,9 +330,10 @@ impl Runner {
         self.folder.put_in(folder)
     }
 
-    /// Copies the card that is in to a folder that is not there yet. S is read anew: a store that was reported as failed may
-    /// have been done.
+    /// Copies the card that is in to a folder that is not there yet. S is read anew, and is on the disk before it is gone by: a
+    /// store that was reported as failed may have been done.
     pub fn copy_card(&self, folder: &Path) -> Result<(), Fault> {
+        self.folder.settle()?;
         self.card()?.copy_to(folder, self.folder.vault()?.numbers().s)
     }
 
