@@ -80,7 +80,7 @@ impl Bench {
         let of = |about: &str, scripts: &[&[Command]]| self.session(about, Some(&made), &[], scripts);
         let change =
             |swap: Command| script(&[&used(), &TIDY, &[swap, Checkpoint], &takes(5..7), &[Start], &takes(7..8)]);
-        let files = [self.file(&made, 0..126), self.file(&made, 126..131)];
+        let files = [self.file(0..126), self.file(126..131)];
         vec![
             of(
                 "points, checkpoints and truncations, with and without transactions between them",
@@ -172,16 +172,12 @@ impl Bench {
         Disk::of(&self.top).0.whole()
     }
 
-    /// The command that takes the transactions of a file, with room made where that is needed.
-    fn file(&self, made: &Tree, turns: Range<u32>) -> Command {
+    /// The command that takes the transactions of a file.
+    fn file(&self, turns: Range<u32>) -> Command {
         let takes: Vec<Take> = turns.clone().map(Take).collect();
         let path = self.place.join(&format!("{}.csv", turns.start));
         fs::write(&path, takes.iter().map(|take| take.lines()).collect::<String>()).expect("written");
-        let words = format!("--csv {}", path.display());
-        // A program that does not make room by itself has a word for it.
-        let asked = Command::TakeFile(takes.clone(), words.clone() + " --tidy");
-        let ended = self.run(&mut self.fresh(Some(made)), &[Command::Start, asked.clone()], &Fault::None);
-        if ended.status.success() { asked } else { Command::TakeFile(takes, words) }
+        Command::TakeFile(takes, format!("--csv {}", path.display()))
     }
 
     /// Sessions on what a cut has left in some of the states.
