@@ -226,16 +226,9 @@ impl From<Reading> for ffi::Entry {
 }
 
 /// A collector: the state that the library last returned. The key is in it, and is overwritten in memory when it is dropped.
-#[derive(Clone)]
+#[derive(Clone, Debug)]
 pub struct Collector {
     state: Box<ffi::State>,
-}
-
-/// Without the key.
-impl fmt::Debug for Collector {
-    fn fmt(&self, to: &mut fmt::Formatter) -> fmt::Result {
-        write!(to, "Collector {{ phase: {:?}, due: {:?} }}", self.phase(), self.due())
-    }
 }
 
 impl Drop for Collector {

@@ -3,6 +3,8 @@
 //! Flags and codes are single bytes, as in C. The assertions below hold every size and every offset to those of the
 //! header on x86-64; where one is wrong, this crate does not compile.
 
+use std::fmt;
+
 use crate::limits::{KEY_LEN, LANES, METERS, POINTS, RECORDS, TRANSACTION_LEN};
 
 /// The vault's 27 numbers (`paviluko_vault`).
@@ -122,7 +124,7 @@ pub struct Due {
 
 /// A collector's whole state (`paviluko_state`).
 #[repr(C)]
-#[derive(Clone, Copy, Debug, PartialEq, Eq)]
+#[derive(Clone, Copy, PartialEq, Eq)]
 pub struct State {
     /// The vault's numbers, with those that the named store sets.
     pub vault: Vault,
@@ -140,6 +142,16 @@ pub struct State {
     pub key: [u8; KEY_LEN],
     /// 1 cold, 2 recovering, 3 in service; so zeros are no state.
     pub phase: u8,
+}
+
+/// Without the key.
+impl fmt::Debug for State {
+    fn fmt(&self, to: &mut fmt::Formatter) -> fmt::Result {
+        let State { vault, due, table, journal, points, held, key: _, phase } = self;
+        let mut all = to.debug_struct("State");
+        all.field("phase", phase).field("vault", vault).field("due", due).field("journal", journal);
+        all.field("points", points).field("held", held).field("table", table).finish_non_exhaustive()
+    }
 }
 
 /// What a call says (`paviluko_said`).
