@@ -30,7 +30,7 @@ const LOG: &str = "log";
 /// What stands in it, before the number.
 const GENERATION: &str = "generation ";
 /// The folder of checkpoints.
-const CHECKPOINTS: &str = "checkpoints";
+pub const CHECKPOINTS: &str = "checkpoints";
 /// What a folder of records is called, before its generation.
 const RECORDS: &str = "records.";
 /// The file that keeps room.
@@ -75,9 +75,6 @@ pub struct Held {
 }
 
 impl Card {
-    /// The name of the folder in it that has the checkpoints.
-    pub const CHECKPOINTS: &'static str = CHECKPOINTS;
-
     /// The card in a folder, which is there and is no link.
     pub fn open(folder: &Path, disk: Disk) -> Result<Card, Fault> {
         Ok(Card { dir: Dir::open_itself(folder)?, disk })

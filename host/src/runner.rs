@@ -1,13 +1,14 @@
 //! A box that runs: the collector's state in memory, the vault and the card in their files.
 //!
 //! The one rule of the library: a call that is taken names at most one store, and the host carries out exactly that store
-//! before the next call. Every call goes through `Runner::call`, which does so; nothing else here sets the vault or
-//! writes to the card. A store that cannot be done stops the box as a power cut does, since the next call may not come
-//! before it. The plug can be pulled before or after any store.
+//! before the next call. `Runner::follow` does so behind every call; nothing else here sets the vault, or changes a record or a
+//! checkpoint that a start may ask for. A store that cannot be done stops the box as a power cut does, since the next call may
+//! not come before it. The plug can be pulled before or after any store.
 //!
-//! Two things a host does beside the stores. When S is stored, what no start asks for any more is removed from the card; a
-//! card without room is swept the same way, and the store tried again. And before a start acts on what it finds, that is on
-//! the disk, whoever wrote it: a session that was killed, or somebody who copied a card.
+//! What a host does beside the stores: before a start acts on what it finds, that is on the disk, whoever wrote it (a session that
+//! was killed, somebody who copied a card), and the card was written to for a trial. When S is stored, what no start asks for any
+//! more is removed from the card; a card without room is swept the same way, and the store tried again. A record that never
+//! reads back is removed too: it was not visible.
 
 use std::fmt;
 use std::path::Path;
@@ -18,13 +19,14 @@ use crate::files::{Disk, Fault};
 use crate::folder::BoxFolder;
 use crate::limits::{FILE_LEN, POINTS};
 use crate::vault::VaultFile;
+use crate::words;
 
 /// So often a record is read back before it counts as lost.
 const READS: usize = 3;
 /// What to do with a card that has no room left.
 const FULL_CARD: &str = "delete from the card what is not the box's, or copy it to a larger one";
 /// The number of a box that holds as many records or points as it can.
-const FULL: u8 = 7;
+const FULL: u8 = words::FULL_OF_RECORDS.number;
 
 /// On which side of a store the power fails.
 #[derive(Clone, Copy, Debug, PartialEq, Eq)]

@@ -4,21 +4,10 @@
 # Run from the repository's top; the library is built before. PAVILUKO_LIB may name another folder with its archive.
 set -eu
 
-library=${PAVILUKO_LIB:-target/staticlib}/libpaviluko.a
 rust=target-rust/release
 
-[ -f "$library" ] || { echo "$library is missing: build it first" >&2; exit 1; }
-PAVILUKO_LIB=$(cd "$(dirname "$library")" && pwd)
-export PAVILUKO_LIB
+. tests/with_library.sh
 sh tests/cipher/packages.sh gcc libc6-dev libssl-dev
-
-log=$(mktemp)
-trap 'rm -f "$log"' EXIT
-
-# Runs a command, whose output is shown only where it fails.
-quietly() {
-    "$@" >"$log" 2>&1 || { cat "$log" >&2; exit 1; }
-}
 
 quietly sh tools/cargo.sh build --release --quiet
 

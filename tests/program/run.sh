@@ -7,28 +7,15 @@
 set -eu
 
 top=$(pwd)
-library=${PAVILUKO_LIB:-target/staticlib}/libpaviluko.a
 program=$top/target-rust/release/paviluko
 here=$top/tests/program
 
-[ -f "$library" ] || { echo "$library is missing: build it first" >&2; exit 1; }
-PAVILUKO_LIB=$(cd "$(dirname "$library")" && pwd)
-export PAVILUKO_LIB
+. tests/with_library.sh
 sh tests/cipher/packages.sh gcc libc6-dev python3
-
-place=$(sh tools/scratch.sh)
-trap 'rm -rf "$place"' EXIT
-trap 'exit 1' INT TERM
-log=$place/log
 
 fail() {
     echo "$1" >&2
     exit 1
-}
-
-# Runs a command, whose output is shown only where it fails.
-quietly() {
-    "$@" >"$log" 2>&1 || { cat "$log" >&2; exit 1; }
 }
 
 # An empty folder to work in.

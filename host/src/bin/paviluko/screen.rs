@@ -3,7 +3,7 @@
 use std::fmt::Write;
 use std::path::Path;
 
-use paviluko_host::card::Card;
+use paviluko_host::card::CHECKPOINTS;
 use paviluko_host::files::shown;
 use paviluko_host::runner::Runner;
 use paviluko_host::words::medium;
@@ -118,7 +118,7 @@ fn card_folders(runner: &Runner) -> String {
     match seen {
         Ok((folder, held, records_folder)) => {
             let (records, checkpoints) = (count(held.records, "record"), count(held.checkpoints, "checkpoint"));
-            format!("{folder}: {records} in {records_folder}, {checkpoints} in {}", Card::CHECKPOINTS)
+            format!("{folder}: {records} in {records_folder}, {checkpoints} in {}", CHECKPOINTS)
         }
         Err(fault) => fault.to_string(),
     }
