@@ -15,6 +15,7 @@
  *   point        sets a position below which every accepted record is committed               names nothing
  *   checkpoint   3 calls seal the whole table into a file                                     names N, the file, S
  *   truncate     9 calls give up the records below a covered point                            names R of 8 lanes, the deletion
+ *   from_bus     the reading of an M-Bus reply as a transaction, for accept; takes no state   names nothing
  *
  * THE ONE RULE. A call that is taken names at most one store (paviluko_said: store, lane, value, len). The host carries
  * out exactly that store before the next call, and hands the next call the state last returned. Nothing else sets the
@@ -43,7 +44,7 @@
  * POSITIONS are the host's: any rising numbers, 0 among them. They start anew whenever a recovery ends, for it empties
  * the log.
  *
- * A CALL THAT IS TURNED DOWN returns one of the numbers 1 to 15. It hands back the state that came, leaves every buffer
+ * A CALL THAT IS TURNED DOWN returns one of the numbers 1 to 17. It hands back the state that came, leaves every buffer
  * as it was, and names no store: the host may simply go on. Where several causes hold, the lowest number is returned. If
  * commit says 9 to a record read back from the card, read it again and call again; if it says 9 again, the card has not
  * kept the record: load, and recover with a log that leaves this record out, for recover would say 9 to it as well. The
@@ -100,7 +101,7 @@ extern "C" {
  * How many of the requests of document 02 this interface has: each one raises it. The library says its own, so that a program
  * can tell whether header and archive belong together. make lib prints it with a hash of the sources. */
 
-#define PAVILUKO_EDITION 0
+#define PAVILUKO_EDITION 1
 uint64_t paviluko_edition(void);
 
 /* ---- numbers and lengths ---- */
@@ -116,6 +117,10 @@ uint64_t paviluko_edition(void);
 /* A transaction of k writes (1 to 16) has 8 + 8k bytes: stamp (8 bytes, seconds), then per write meter (2, 0 to 255, strictly
  * ascending), code (1 to 4), 0, reading (4, signed). All little-endian. */
 #define PAVILUKO_TRANSACTION_MAX 136
+/* One write: what paviluko_from_bus puts out. */
+#define PAVILUKO_TRANSACTION_MIN 16
+/* The longest frame of the wired bus: L is a byte, and a frame has L + 6. */
+#define PAVILUKO_FRAME_MAX 261
 /* A record is its transaction's length and 40 bytes more. */
 #define PAVILUKO_RECORD_EXTRA 40
 #define PAVILUKO_RECORD_MAX 176
@@ -166,7 +171,7 @@ enum {
     PAVILUKO_REFUSED_CONDITION = 1,    /* another store is due, wrong phase for this call, or a state that no call left */
     PAVILUKO_REFUSED_NUMBERS = 2,      /* load: numbers break V <= W, R <= W, R > V only where R = W, or the maximum */
     PAVILUKO_REFUSED_LENGTH = 3,       /* key not 16 bytes, out too short, log too long (the length needed or allowed) */
-    PAVILUKO_REFUSED_TRANSACTION = 4,  /* transaction not in its layout */
+    PAVILUKO_REFUSED_TRANSACTION = 4,  /* transaction not in its layout; from_bus: meter above 255 */
     PAVILUKO_REFUSED_LANE = 5,         /* lane above 7 */
     PAVILUKO_REFUSED_POSITION = 6,     /* position too low */
     PAVILUKO_REFUSED_FULL = 7,         /* 128 records listed, or 8 points kept */
@@ -177,7 +182,9 @@ enum {
     PAVILUKO_REFUSED_VERSION = 12,     /* checkpoint version is not S */
     PAVILUKO_REFUSED_MISSING = 13,     /* visible records missing (the lowest such lane) */
     PAVILUKO_REFUSED_NO_POINT = 14,    /* no such point, or not covered by a checkpoint */
-    PAVILUKO_REFUSED_UNSEEN = 15       /* a record below the point is not committed yet */
+    PAVILUKO_REFUSED_UNSEEN = 15,      /* a record below the point is not committed yet */
+    PAVILUKO_REFUSED_FRAME = 16,       /* from_bus: a broken frame */
+    PAVILUKO_REFUSED_NO_READING = 17   /* from_bus: a frame without a usable record */
 };
 
 /* ---- structs ----
@@ -357,6 +364,20 @@ paviluko_reply paviluko_truncate(paviluko_state s, uint64_t position);
 paviluko_reply paviluko_recover(paviluko_state s, const uint8_t *checkpoint, size_t checkpoint_len, const uint8_t *log,
                                 size_t log_len, uint8_t *out, size_t room);
 
+/* ---- from the wired bus ---- */
+
+/* A reply of a meter on the wired M-Bus (EN 13757) as a transaction of one write, PAVILUKO_TRANSACTION_MIN bytes at the start
+ * of out, ready for accept: the caller gives meter and stamp, the frame code and reading. The bytes behind it stay. Said:
+ * number 0, store PAVILUKO_STORE_NONE, len PAVILUKO_TRANSACTION_MIN.
+ * The frame is hexadecimal 68 L L 68, then L bytes, their sum modulo 256, and 16; the L bytes are C (08, 18, 28 or 38), any
+ * address, CI 72, a header of 12 bytes, whose eighth is the medium, and records. Media 07 and 16 give code 1, 06 and 15 code
+ * 2, 04 and 0C code 3, 0A and 0B code 4. The first record with DIF 0C and VIF 13 (codes 1 and 2) or 06 (3 and 4) is taken:
+ * eight BCD digits, lowest byte first; F as the top digit is a minus before the other seven.
+ * Turned down, the lowest number first: 3 (PAVILUKO_TRANSACTION_MIN); 4 (meter above 255); 16, a frame that is not exactly so,
+ * or L below 15; 17, no such record before the end of the L bytes, before a DIF that ends in D or F (2F is filler), a VIF 7C
+ * or FC or a record that runs past the L bytes, or another digit above 9 in it, or another medium. out is then as it came. */
+paviluko_said paviluko_from_bus(const uint8_t *frame, size_t len, uint16_t meter, uint64_t stamp, uint8_t *out, size_t room);
+
 /* ---- for a host and a screen: a state's fields, whatever the state ---- */
 
 /* The latest reading of a meter. Readings are true of the visible transactions while recovering and in service. */
@@ -375,7 +396,7 @@ uint64_t paviluko_points(paviluko_state s);
 
 /* ---- the same with the state behind a pointer ----
  * Each calls the function of its name with *s, writes the next state to *s, and returns what was said. A NULL buffer is one of
- * length 0, whatever length stands beside it. s and x are never NULL. */
+ * length 0, whatever length stands beside it. s and x are never NULL. paviluko_do_from_bus has no state. */
 
 static inline const uint8_t *paviluko_some(const uint8_t *p)
 {
@@ -452,6 +473,14 @@ static inline paviluko_said paviluko_do_recover(paviluko_state *s, const uint8_t
                                         paviluko_len(out, room));
     *s = r.state;
     return r.said;
+}
+
+static inline paviluko_said paviluko_do_from_bus(const uint8_t *frame, size_t len, uint16_t meter, uint64_t stamp, uint8_t *out,
+                                                 size_t room)
+{
+    uint8_t none = 0;
+    return paviluko_from_bus(paviluko_some(frame), paviluko_len(frame, len), meter, stamp, out ? out : &none,
+                             paviluko_len(out, room));
 }
 
 /* Wipes a state, padding and all; the compiler keeps every write. What is left is no state: every call on it is turned down

@@ -5,11 +5,13 @@
 // numbers are none that `freeze` writes is not known. The parts of the state that hold no enum cross as they are.
 ghost use mathlib.Core.Path.{_≡_};
 ghost use mathlib.Core.Bool.{cond};
-ghost use mathlib.Core.List.{[]};
+ghost use mathlib.Core.List.{[], _∷_};
 ghost use Rattle.octets.specs.Lists.{at};
-ghost use Rattle.protocol.specs.Said.{numberOf, valuesOf, shown, shownAs};
+ghost use Rattle.protocol.specs.Said.{refused, numberOf, valuesOf, shown, shownAs};
+ghost use Rattle.bus.specs.Answer.{saidBy};
 ghost use Rattle.boundary.specs.Flat.{dueOf, numbers, dueNumbers, phaseOf, phaseNumber, knownBy, thaw, freeze};
 ghost use Rattle.boundary.specs.Replies.{named, saidOf, replyOf, notAState};
+use bus::Heard;
 use protocol::Answer;
 use protocol::CheckpointStep;
 use protocol::Due;
@@ -26,9 +28,10 @@ use protocol::Store;
 use protocol::TruncateStep;
 use protocol::Vault;
 use table::Table;
+use transaction::MIN_TEXT;
 
 // The edition of the C interface: how many of the requests of document 02 it has.
-pub const EDITION: u64 = 0;
+pub const EDITION: u64 = 1;
 
 // The store that is due: its kind, and the position, the lane and the checkpoint (0 the first, 1 the second) of a kind that
 // has them. What a kind does not have is 0.
@@ -434,6 +437,19 @@ fn value_of(why: Refusal) -> u64
     }
 }
 
+// A number, and the value returned with it.
+fn refused(number: u8, value: u64) -> Said
+    ensures { λ r. ⌜ r ≡ saidOf (refused number (value ∷ [])) ⌝ }
+{
+    Said {
+        value,
+        len: 0,
+        number,
+        store: 0,
+        lane: 0,
+    }
+}
+
 // What an outcome says.
 pub fn said_of(o: Outcome) -> Said
     ensures { λ r. ⌜ r ≡ saidOf (shown o) ⌝ }
@@ -443,14 +459,21 @@ pub fn said_of(o: Outcome) -> Said
         Outcome::Refused { why } => {
             let value = value_of(why);
             let number = number_of(why);
-            Said {
-                value,
-                len: 0,
-                number,
-                store: 0,
-                lane: 0,
-            }
+            refused(number, value)
         }
+    }
+}
+
+// What a reply off the bus comes to.
+pub fn said_of_bus(h: Heard) -> Said
+    ensures { λ r. ⌜ r ≡ saidOf (saidBy h) ⌝ }
+{
+    match h {
+        Heard::Taken => named(Store::Nothing, MIN_TEXT as u64),
+        Heard::Short(right) => refused(3, right as u64),
+        Heard::Meter => refused(4, 0),
+        Heard::Broken => refused(16, 0),
+        Heard::Unusable => refused(17, 0),
     }
 }
 

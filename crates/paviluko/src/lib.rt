@@ -1,5 +1,5 @@
-// The collector as a C program calls it: 01's eight operations, and what a host and a screen ask of a state. The header is
-// include/paviluko.h.
+// The collector as a C program calls it: 01's eight operations, what a host and a screen ask of a state, and 02's functions
+// beside them. The header is include/paviluko.h.
 //
 // The host keeps the state and hands it over by value; the reply has the next state, by value too. Nothing is kept between
 // calls. Each promise is that of 01's definition, carried over the boundary by `thaw` and `replyTo`; a state whose numbers
@@ -16,11 +16,13 @@ ghost use Rattle.protocol.specs.Point.{point};
 ghost use Rattle.protocol.specs.Checkpoint.{checkpoint};
 ghost use Rattle.protocol.specs.Truncate.{truncate};
 ghost use Rattle.protocol.specs.Recover.{recover};
+ghost use Rattle.bus.specs.Answer.{fromBus};
 ghost use Rattle.boundary.specs.Flat.{thaw};
-ghost use Rattle.boundary.specs.Replies.{replyOf, replyTo, putTo};
+ghost use Rattle.boundary.specs.Replies.{saidOf, replyOf, replyTo, putTo};
 use boundary::DueNumbers;
 use boundary::FlatState;
 use boundary::Reply;
+use boundary::Said;
 use protocol::Vault;
 use table::Entry;
 
@@ -147,6 +149,19 @@ pub extern "C" fn paviluko_recover(
     let state = boundary::thaw(s);
     let a = recovering::recover(state, checkpoint, log, out);
     boundary::reply_of(a)
+}
+
+// ---- from the wired bus
+
+// The reading of an M-Bus reply as a transaction of one write, at the start of out. Names no store. Refuses with 3, 4, 16
+// and 17.
+#[no_mangle]
+pub extern "C" fn paviluko_from_bus(frame: &[u8], meter: u16, stamp: u64, out: &mut [u8]) -> Said
+    ensures answer { λ r. ⌜ r ≡ saidOf (fromBus (now (frame .entry)) meter stamp (length (now (out .entry))) .said) ⌝ }
+    ensures bytes { λ r. ⌜ now (out .exit) ≡ putOver (fromBus (now (frame .entry)) meter stamp (length (now (out .entry))) .put) (now (out .entry)) ⌝ }
+{
+    let h = bus::from_bus(frame, meter, stamp, out);
+    boundary::said_of_bus(h)
 }
 
 // ---- for a host and a screen

@@ -11,7 +11,7 @@ returns c = rw (c .named .ensures, c .before .before .o .given .1)
 
 returns-2 : tie.Need-returns-2
 unfolding saidOf shown
-returns-2 c = rw (c .number-of .ensures, c .before .value-of .ensures, c .before .before .before .o2 .given .1)
+returns-2 c = rw (c .refused .ensures, c .before .number-of .ensures, c .before .before .value-of .ensures, c .before .before .before .before .o2 .given .1)
 
 pub said-of-spec : {M : Type 1} → statement M
 said-of-spec =
@@ -20,6 +20,7 @@ said-of-spec =
     (λ c. search needs)
     (λ c κs. search needs)
     (λ c. search needs)
+    (λ c κs. search needs)
     (λ c κs. search needs)
     (λ c κs. search needs)
     returns

@@ -1,0 +1,8 @@
+-- Laws that the functions' proofs and the layers above cite.
+pub mod MediumLaws
+pub mod FieldLaws
+pub mod DigitLaws
+pub mod LookLaws
+pub mod SearchLaws
+pub mod FrameLaws
+pub mod AnswerLaws
