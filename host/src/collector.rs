@@ -64,7 +64,7 @@ pub struct Taken {
 /// Why a call was refused: the number on the display, and the value returned with it (0 where there is none).
 #[derive(Clone, Copy, Debug, PartialEq, Eq)]
 pub struct Refusal {
-    /// 1 to 15.
+    /// 1 to 17; 16 and 17 are those of `from_bus` alone.
     pub number: u8,
     /// 3: the length needed or allowed; 9, 10, 11: an offset; 13: a lane.
     pub value: u64,
@@ -395,7 +395,7 @@ impl Collector {
 }
 
 /// The boundary's answer as a result.
-fn said(said: &ffi::Said) -> Result<Taken, Refusal> {
+pub(crate) fn said(said: &ffi::Said) -> Result<Taken, Refusal> {
     let ffi::Said { value, len, number, store, lane } = *said;
     if number != 0 {
         return Err(Refusal { number, value });

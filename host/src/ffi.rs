@@ -204,6 +204,7 @@ unsafe extern "C" {
     pub fn paviluko_due_store(s: State) -> Due;
     pub fn paviluko_records(s: State) -> u64;
     pub fn paviluko_points(s: State) -> u64;
+    pub fn paviluko_from_bus(frame: *const u8, len: usize, meter: u16, stamp: u64, out: *mut u8, room: usize) -> Said;
 }
 
 /// The header's sizes and offsets.

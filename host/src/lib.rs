@@ -6,8 +6,10 @@
 //! For the bench there is a whole box in a folder: a vault kept in a file (`vault`), a card kept in a folder (`card`), and a
 //! runner that carries out exactly the one named store before the next call (`runner`). The program `paviluko` runs it.
 //!
-//! A module uses only those named before it: `limits`, `ffi`, `words`, `secret`, `collector`, `files` with `dir`, `vault`, `card`,
-//! `folder`, `runner`; `transaction` uses `limits`, and `identity`, which says what the library is, `ffi`.
+//! `bus` has the function that makes a transaction of a meter's reply on the wired bus, and what such a frame says.
+//!
+//! A module uses only those named before it: `limits`, `ffi`, `words`, `secret`, `collector`, `bus`, `files` with `dir`, `vault`,
+//! `card`, `folder`, `runner`; `transaction` uses `limits`, and `identity`, which says what the library is, `ffi`.
 //!
 //! ```no_run
 //! use paviluko_host::{Collector, Numbers, Store};
@@ -24,6 +26,7 @@
 //! }
 //! ```
 
+pub mod bus;
 pub mod card;
 pub mod collector;
 pub mod dir;
@@ -38,7 +41,9 @@ pub mod transaction;
 pub mod vault;
 pub mod words;
 
+pub use bus::from_bus;
 pub use collector::{Collector, Due, Numbers, Phase, Reading, Refusal, Store, Taken};
 pub use limits::{
-    COUNTER_MAX, FILE_LEN, KEY_LEN, LANES, LOG_LEN, METERS, POINTS, RECORD_LEN, RECORDS, TRANSACTION_LEN, WRITES,
+    COUNTER_MAX, FILE_LEN, FRAME_LEN, KEY_LEN, LANES, LOG_LEN, METERS, ONE_WRITE_LEN, POINTS, RECORD_LEN, RECORDS,
+    TRANSACTION_LEN, WRITES,
 };

@@ -14,11 +14,15 @@ pub const WRITES: usize = 16;
 pub const KEY_LEN: usize = 16;
 /// Bytes of the longest transaction.
 pub const TRANSACTION_LEN: usize = 8 + 8 * WRITES;
+/// Bytes of a transaction of one write.
+pub const ONE_WRITE_LEN: usize = 16;
 /// Bytes of the longest record.
 pub const RECORD_LEN: usize = TRANSACTION_LEN + 40;
 /// Bytes of a checkpoint file.
 pub const FILE_LEN: usize = METERS * 24 + 40;
 /// Bytes of the longest log that Recover takes.
 pub const LOG_LEN: usize = 262_144;
+/// Bytes of the longest frame off the bus.
+pub const FRAME_LEN: usize = 255 + 6;
 /// The greatest number that the vault can hold.
 pub const COUNTER_MAX: u64 = (1 << 48) - 1;

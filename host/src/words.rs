@@ -6,7 +6,7 @@ use std::fmt;
 /// A number of the display.
 #[derive(Clone, Copy, Debug, PartialEq, Eq)]
 pub struct Sentence {
-    /// 1 to 15.
+    /// 1 to 17.
     pub number: u8,
     /// What it means, without a full stop.
     pub means: &'static str,
@@ -36,7 +36,7 @@ pub const FULL_OF_POINTS: Sentence = Sentence {
 };
 
 /// Every number, in order.
-pub const SENTENCES: [Sentence; 15] = [
+pub const SENTENCES: [Sentence; 17] = [
     Sentence {
         number: 1,
         means: "the box is not ready for this: it is not in service, or another store is due",
@@ -108,6 +108,16 @@ pub const SENTENCES: [Sentence; 15] = [
         means: "a record below the point is not visible",
         then: "Cut the power and start again, take that reading anew, then set the point.",
     },
+    Sentence {
+        number: 16,
+        means: "this is no whole reply of a meter on the wired bus",
+        then: "Ask the meter again. If this comes again, look at the wires, and whether two meters have one address.",
+    },
+    Sentence {
+        number: 17,
+        means: "this reply has no reading that the box can take",
+        then: "It must be a water, heat or cooling meter's, with eight digits in litres or kWh: paviluko bus shows what it has.",
+    },
 ];
 
 /// The sentence of a number, if there is such a number.
@@ -131,9 +141,9 @@ mod tests {
     use super::*;
 
     #[test]
-    fn numbers_are_1_to_15() {
+    fn numbers_are_1_to_17() {
         let numbers: Vec<u8> = SENTENCES.iter().map(|s| s.number).collect();
-        assert_eq!(numbers, (1..=15).collect::<Vec<u8>>());
+        assert_eq!(numbers, (1..=17).collect::<Vec<u8>>());
     }
 
     #[test]
