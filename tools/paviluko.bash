@@ -7,29 +7,30 @@ _paviluko() {
     local options= kind= names=0 at IFS=$'\n'
     COMPREPLY=()
     if ((COMP_CWORD == 1)); then
-        COMPREPLY=($(compgen -W $'new\nrun\ntable\ndemo\nhelp\nversion\n--help\n--version' -- "$word"))
+        COMPREPLY=($(compgen -W $'new\nrun\ntable\nbus\ndemo\nhelp\nversion\n--help\n--version' -- "$word"))
         return
     fi
 
     # The folders and files that stand before the word: no options, nor what belongs to one.
     for ((at = 2; at < COMP_CWORD; at++)); do
         case ${COMP_WORDS[at]} in
-        --vault) ((at++)) ;;
+        --vault | --file) ((at++)) ;;
         -*) ;;
         *) ((names++)) ;;
         esac
     done
 
     case $command:$names in
-    help:0) options=$'new\nrun\ntable\ndemo' ;;
+    help:0) options=$'new\nrun\ntable\nbus\ndemo' ;;
     new:0) kind=-d options=--vault ;;
     new:*) options=--vault ;;
     run:0 | demo:0) kind=-d ;;
     run:1) kind=-f ;;
     table:0) kind=-d options=--csv ;;
     table:*) options=--csv ;;
+    bus:*) options=--file ;;
     esac
-    if [[ $command = new && $before = --vault ]]; then
+    if [[ $command$before = new--vault || $command$before = bus--file ]]; then
         kind=-f options=
     elif [[ $word = -* ]]; then
         kind= options+=$'\n--help\n--version'

@@ -21,6 +21,17 @@ pub fn bytes(stamp: u64, writes: &[Write]) -> Vec<u8> {
     out
 }
 
+/// The writes in a transaction's bytes.
+pub fn writes(transaction: &[u8]) -> Vec<Write> {
+    let (writes, _) = transaction.get(8..).unwrap_or_default().as_chunks::<8>();
+    let write = |&[low, high, code, _, a, b, c, d]: &[u8; 8]| Write {
+        meter: u16::from_le_bytes([low, high]),
+        code,
+        reading: i32::from_le_bytes([a, b, c, d]),
+    };
+    writes.iter().map(write).collect()
+}
+
 /// A write from `METER=CODE:READING`.
 pub fn write(word: &str) -> Option<Write> {
     let (meter, rest) = word.split_once('=')?;
@@ -120,6 +131,8 @@ mod tests {
             bytes(5, &writes),
             [5, 0, 0, 0, 0, 0, 0, 0, 2, 1, 3, 0, 254, 255, 255, 255, 7, 0, 1, 0, 16, 0, 0, 0]
         );
+        assert_eq!(super::writes(&bytes(5, &writes)), writes);
+        assert!(super::writes(&[1; 7]).is_empty() && super::writes(&[1; 15]).is_empty());
         for bad in ["", "7", "7=1", "7:1", "x=1:1", "7=256:1", "65536=1:1", "7=1:2147483648", "7=1:1:1", "7=1:"] {
             assert_eq!(write(bad), None, "{bad}");
         }

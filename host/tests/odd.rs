@@ -27,7 +27,7 @@ fn pick<'a, T>(random: &mut Random, list: &'a [T]) -> &'a T {
 
 /// A line of a script: often a command, often a wrong one.
 fn line(random: &mut Random) -> String {
-    const LINES: [&str; 24] = [
+    const LINES: [&str; 27] = [
         "start",
         "start",
         "start",
@@ -49,11 +49,14 @@ fn line(random: &mut Random) -> String {
         "copy-card copy",
         "swap-card --new blank",
         "take --csv script",
+        "take-bus 2 5 now 6815156808FD720000000000000007000000000C1334120000E316",
+        "take-bus 2 5 100 68 15 15 68 08 FD 72 00 00 00 00 00 00 00 07 00 00 00 00 0C 13 34 12 00 00 E3 16",
+        "take-bus 2 5 100 --file script",
         "cut after 3",
         "cut before 9",
         "#",
     ];
-    const WORDS: [&str; 22] = [
+    const WORDS: [&str; 26] = [
         "take",
         "accept",
         "commit",
@@ -63,7 +66,11 @@ fn line(random: &mut Random) -> String {
         "after",
         "before",
         "--csv",
+        "--file",
         "--new",
+        "take-bus",
+        "68",
+        "681515680",
         "0",
         "7",
         "8",

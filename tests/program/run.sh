@@ -61,10 +61,27 @@ files_for_csv() {
     printf '0,1,\377\376,1,1\n' >binary.csv
 }
 
+# Bytes that are given in hexadecimal.
+raw() {
+    for byte in $1; do
+        printf "\\$(printf %03o "0x$byte")"
+    done
+}
+
+# A water meter's reply on the bus, 1234 l.
+reply='68 1B 1B 68 08 05 72 78 56 34 12 24 40 01 07 55 00 00 00 0C 78 78 56 34 12 0C 13 34 12 00 00 51 16'
+files_for_bus() {
+    raw "$reply" >good.frame
+    raw "$reply $reply" >two.frames
+    { raw "$reply" && head -c 300000 /dev/zero; } >long.frame
+    echo "$reply" >text.frame
+}
+
 sessions=0
 for script in "$here"/*.in; do
     fresh
     files_for_csv
+    files_for_bus
     quietly "$program" new box
     wanted=$(sed -n '1s/^# exit //p' "$script")
     status=0
@@ -77,6 +94,7 @@ for script in "$here"/*.in; do
     # The same from a file, whose name a refusal says too: word for word, since lines are then broken elsewhere.
     fresh
     files_for_csv
+    files_for_bus
     quietly "$program" new box
     cp "$script" a-script
     "$program" run box a-script >"$place/again" 2>&1 || true
@@ -137,7 +155,7 @@ fresh
 for words in --help -h help 'nwe --help' '--help new x'; do
     expect 0 'paviluko table DIR [--csv]' "$program" $words
 done
-for command in new run table demo; do
+for command in new run table bus demo; do
     for words in "$command --help" "$command box -h" "help $command" "$command a b c d --help"; do
         expect 0 "paviluko $command" "$program" $words
         ! grep -q 'paviluko --version' "$log" || fail "paviluko $words: the help of everything"
@@ -165,6 +183,16 @@ expect 2 'write ./-' "$program" run box -
 expect 2 'a word is missing behind --vault' "$program" new --vault
 expect 2 'write ./-x' "$program" new box --vault -x
 expect 2 'a name is empty' "$program" new ''
+expect 2 'the frame is missing' "$program" bus
+expect 2 'usage: paviluko bus HEX.. | --file FILE' "$program" bus ''
+expect 2 'two hexadecimal digits for each byte, and not 681' "$program" bus 68 1B 681
+expect 2 'in hexadecimal, as 68 1F or 681F, and not 0x68' "$program" bus 0x68
+expect 2 'and not \u{1b}[2J' "$program" bus "$(printf '\033[2J')"
+expect 2 '"68" is one word too many: the frame is in the file' "$program" bus --file good.frame 68
+expect 2 'a word is missing behind --file' "$program" bus --file
+expect 2 'write ./-' "$program" bus --file -
+expect 2 'there is no option --fiel (did you mean --file?)' "$program" bus --fiel good.frame
+expect 2 'there is no command "bsu" (did you mean bus?)' "$program" bsu 68
 [ -z "$("$program" sell box 2>/dev/null)$("$program" new 2>/dev/null)" ] || fail 'a wrong command line on standard output'
 [ -z "$(ls)" ] || fail "a wrong command line made $(ls)"
 expect 1 'box: not found' "$program" run box
@@ -240,6 +268,49 @@ rm -r box/card-1
 mv lifted box/card-1
 expect 0 '' "$program" table box
 
+# A frame off the bus without a box: what it says on standard output, a refusal on standard error.
+files_for_bus
+taken='taken      code 1, cold water: 1234 l'
+expect 0 "$taken" "$program" bus $reply
+expect 0 "$taken" "$program" bus "$reply"
+expect 0 "$taken" "$program" bus "$(echo "$reply" | tr -d ' ' | tr A-F a-f)"
+expect 0 "$taken" "$program" bus --file good.frame
+expect 1 'paviluko: nowhere: not found' "$program" bus --file nowhere
+expect 1 'paviluko: box: is a folder' "$program" bus --file box
+expect 1 'paviluko: refused: 16,' "$program" bus E5
+expect 1 'why: there are no bytes' "$program" bus --file /dev/stdin
+expect 1 'has 33 bytes, and here are 66' "$program" bus --file two.frames
+expect 1 'here are more than 261' "$program" bus --file long.frame
+expect 1 'why: byte 0 is 00 and not 68' "$program" bus --file /dev/zero
+expect 1 'hexadecimal digits in the place of bytes' "$program" bus --file text.frame
+"$program" bus $reply >"$place/out" 2>"$place/err"
+diff - "$place/out" >&2 <<'END' || fail 'paviluko bus: not what the frame says'
+meter      identification 12345678, manufacturer PAD, version 1
+medium     07, water
+status     00; access number 85, signature 0000
+frame      33 bytes, C 08, address 5
+byte  DIF  VIF  data
+  19  0C   78   78 56 34 12  fabrication number 12345678 (8 digits)
+  25  0C   13   34 12 00 00  volume 1234 l (8 digits): taken
+taken      code 1, cold water: 1234 l
+END
+[ ! -s "$place/err" ] || fail "a frame that is taken, and: $(cat "$place/err")"
+# The example in the description of the bus: its volume is an integer.
+example='68 1F 1F 68 08 02 72 78 56 34 12 24 40 01 07 55 00 00 00 03 13 15 31 00 DA 02 3B 13 01 8B 60 04 37 18 02 18 16'
+! "$program" bus $example >"$place/out" 2>"$place/err" || fail 'a frame without a usable record is taken'
+diff - "$place/out" >&2 <<'END' || fail 'paviluko bus: not what the example says'
+meter      identification 12345678, manufacturer PAD, version 1
+medium     07, water
+status     00; access number 85, signature 0000
+frame      37 bytes, C 08, address 2
+byte  DIF    VIF  data
+  19  03     13   15 31 00  volume 12565 l (24-bit integer)
+  24  DA 02  3B   13 01     volume flow 113 l/h (4 digits, maximum, storage 5)
+  29  8B 60  04   37 18 02  energy 218.37 kWh (6 digits, tariff 2, subunit 1)
+END
+grep -q '^paviluko: refused: 17, ' "$place/err" || fail 'not refused with 17 on standard error'
+[ -z "$("$program" bus E5 2>/dev/null)" ] || fail 'a broken frame, and something on standard output'
+
 # Vaults that somebody wrote: 8 and 2, each at its place, and files that are none.
 vault_says() {
     printf "$3" >numbers
@@ -289,7 +360,7 @@ completes() {
 fresh
 mkdir box 'a folder'
 : >script
-completes '--help|--version|demo|help|new|run|table|version' ''
+completes '--help|--version|bus|demo|help|new|run|table|version' ''
 completes table ta
 completes '--help|--version' --
 completes '--help|--vault|--version' new --
@@ -304,7 +375,12 @@ completes 'a folder|box|script' run box ''
 completes script run box s
 completes '' run box script ''
 completes '' table box ''
-completes 'demo|new|run|table' help ''
+completes 'bus|demo|new|run|table' help ''
+completes '--file|--help|--version' bus -
+completes 'a folder|box|script' bus --file ''
+completes script bus --file s
+completes '' bus ''
+completes '' bus 68 ''
 completes '' version ''
 echo "program: $cases words completed"
 
@@ -426,7 +502,8 @@ echo "program: $cases boxes with damaged files, each refused or taken as it shou
 # ---- kills, cards, demonstration ----
 
 cd "$top"
-quietly sh tools/cargo.sh test --release --quiet -p paviluko_host --lib --bins
+quietly sh tools/cargo.sh test --release --quiet -p paviluko_host --lib --bins -- --nocapture
+echo "program: off the bus, as the library says: $(grep -o '[0-9]* frames: .*' "$log")"
 quietly sh tools/cargo.sh test --release --quiet -p paviluko_host --test cards
 echo 'program: vault file, card folder and the change of a card, cut at every store'
 quietly sh tools/cargo.sh test --release --quiet -p paviluko_host --test odd -- --nocapture

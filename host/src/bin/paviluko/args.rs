@@ -6,7 +6,7 @@ use std::path::{Path, PathBuf};
 use lexopt::{Arg, Parser};
 use paviluko_host::files::{clean, shown};
 
-use crate::near;
+use crate::{bus, near};
 
 pub const USAGE: &str = "\
 paviluko: a submeter collector's box on the bench
@@ -14,6 +14,7 @@ paviluko: a submeter collector's box on the bench
   paviluko new [--vault FILE] DIR   makes a box in the folder DIR: a vault, a key, an empty card
   paviluko run DIR [SCRIPT]         runs that box: commands from the terminal, a pipe or a file
   paviluko table DIR [--csv]        prints that box's table of latest readings, and stores nothing
+  paviluko bus HEX.. | --file FILE  prints what a meter's reply on the wired bus says
   paviluko demo [DIR]               shows the main job on a new box, in DIR or a passing folder
   paviluko --version                prints the library's edition and the hash of its sources
   paviluko --help                   prints this; behind a command, what that command does
@@ -47,6 +48,16 @@ the table goes to standard output; what else there is to say goes to standard er
   --csv   prints it as meter,code,reading,stamp,lane,number,medium,unit,utc
 ";
 
+const BUS: &str = "\
+Prints what a frame off the wired bus (M-Bus, EN 13757) says: the meter, its medium, and its records
+one a line up to the one that is taken, with code and reading. The frame is a meter's whole reply,
+from 68 to 16. No box is needed, and nothing is stored. A frame that is refused (16, 17) is refused
+on standard error, with the reason.
+
+  HEX           the frame's bytes in hexadecimal, with or without blanks between them
+  --file FILE   takes them from FILE instead, as they are
+";
+
 const DEMO: &str = "\
 Shows the main job on a new box and checks it: a day's readings, a checkpoint and a truncation, the
 plug pulled before and after every store, old cards put in and refused. The box and its cards are
@@ -59,12 +70,13 @@ pub enum Command {
     New,
     Run,
     Table,
+    Bus,
     Demo,
 }
 
-const COMMANDS: [Command; 4] = [Command::New, Command::Run, Command::Table, Command::Demo];
+const COMMANDS: [Command; 5] = [Command::New, Command::Run, Command::Table, Command::Bus, Command::Demo];
 /// All words that can stand first.
-const WORDS: [&str; 6] = ["new", "run", "table", "demo", "help", "version"];
+const WORDS: [&str; 7] = ["new", "run", "table", "bus", "demo", "help", "version"];
 
 impl Command {
     fn of(word: &str) -> Option<Command> {
@@ -76,6 +88,7 @@ impl Command {
             Command::New => "new",
             Command::Run => "run",
             Command::Table => "table",
+            Command::Bus => "bus",
             Command::Demo => "demo",
         }
     }
@@ -86,6 +99,7 @@ impl Command {
             Command::New => "paviluko new [--vault FILE] DIR",
             Command::Run => "paviluko run DIR [SCRIPT]",
             Command::Table => "paviluko table DIR [--csv]",
+            Command::Bus => "paviluko bus HEX.. | --file FILE",
             Command::Demo => "paviluko demo [DIR]",
         }
     }
@@ -96,6 +110,7 @@ impl Command {
             Command::New => NEW,
             Command::Run => RUN,
             Command::Table => TABLE,
+            Command::Bus => BUS,
             Command::Demo => DEMO,
         };
         format!("{}\n\n{text}", self.usage())
@@ -106,16 +121,18 @@ impl Command {
         match self {
             Command::New => Some(("vault", true)),
             Command::Table => Some(("csv", false)),
+            Command::Bus => Some(("file", true)),
             Command::Run | Command::Demo => None,
         }
     }
 
-    /// The least and the greatest number of words behind it.
+    /// The least and the greatest number of names behind it.
     fn words(self) -> (usize, usize) {
         match self {
             Command::New | Command::Table => (1, 1),
             Command::Run => (1, 2),
             Command::Demo => (0, 1),
+            Command::Bus => (0, 0),
         }
     }
 }
@@ -126,9 +143,17 @@ pub enum Wish {
     New { dir: PathBuf, vault: Option<PathBuf> },
     Run { dir: PathBuf, script: Option<PathBuf> },
     Table { dir: PathBuf, csv: bool },
+    Bus(Source),
     Demo { dir: Option<PathBuf> },
     Help(Option<Command>),
     Version,
+}
+
+/// Where a frame is.
+#[derive(Debug, PartialEq, Eq)]
+pub enum Source {
+    Bytes(Vec<u8>),
+    File(PathBuf),
 }
 
 /// What is wrong with a command line: whole lines.
@@ -184,6 +209,8 @@ struct Line {
     /// The first word, where it is help or version.
     other: Option<Wish>,
     names: Vec<PathBuf>,
+    /// The words of a frame.
+    hex: Vec<String>,
     /// The command's option was given.
     flag: bool,
     /// The word behind it.
@@ -214,6 +241,7 @@ impl Line {
                 Some(command) => self.other = Some(Wish::Help(Some(command))),
                 None => self.first(&text),
             },
+            (Some(Command::Bus), _) => self.hex.extend(text.split_whitespace().map(String::from)),
             (Some(command), _) if self.names.len() < command.words().1 => {
                 if let Some(name) = self.name(word) {
                     self.names.push(name);
@@ -271,8 +299,19 @@ impl Line {
             Command::New => Wish::New { dir, vault: self.value },
             Command::Run => Wish::Run { dir, script: names.next() },
             Command::Table => Wish::Table { dir, csv: self.flag },
+            Command::Bus => Wish::Bus(frame(self.hex, self.value).map_err(|what| Wrong::of(Some(command), &what))?),
             Command::Demo => Wish::Demo { dir: first },
         })
+    }
+}
+
+/// The frame that is in words, or in a file.
+fn frame(words: Vec<String>, file: Option<PathBuf>) -> Result<Source, String> {
+    match (file, &words[..]) {
+        (Some(file), []) => Ok(Source::File(file)),
+        (None, [_, ..]) => bus::bytes(&words).map(Source::Bytes).map_err(|how| format!("write {how}")),
+        (None, []) => Err("the frame is missing".to_string()),
+        (Some(_), [word, ..]) => Err(format!("{} is one word too many: the frame is in the file", quoted(word))),
     }
 }
 
@@ -311,6 +350,10 @@ mod tests {
             ("run box new", Wish::Run { dir: dir(), script: Some("new".into()) }),
             ("table box", Wish::Table { dir: dir(), csv: false }),
             ("table --csv box", Wish::Table { dir: dir(), csv: true }),
+            ("bus 68 1F1f 68", Wish::Bus(Source::Bytes(vec![0x68, 0x1f, 0x1f, 0x68]))),
+            ("bus --file f", Wish::Bus(Source::File("f".into()))),
+            ("bus --file=f", Wish::Bus(Source::File("f".into()))),
+            ("bus x --help", Wish::Help(Some(Command::Bus))),
             ("demo", Wish::Demo { dir: None }),
             ("demo box", Wish::Demo { dir: Some(dir()) }),
             ("new ./-x", Wish::New { dir: "./-x".into(), vault: None }),
@@ -350,6 +393,12 @@ mod tests {
             ("new --vault", "a word is missing behind --vault"),
             ("new --vault -x box", "no name may begin with -: write ./-x"),
             ("new --vault box", "the folder DIR is missing"),
+            ("bus", "paviluko bus: the frame is missing\nusage: paviluko bus HEX.. | --file FILE\n"),
+            ("bus 68 6", "write two hexadecimal digits for each byte, and not 6\nusage: paviluko bus"),
+            ("bus 68 0x16", "write the frame's bytes in hexadecimal, as 68 1F or 681F, and not 0x16\n"),
+            ("bus 68 --file f", "\"68\" is one word too many: the frame is in the file"),
+            ("bus --file", "a word is missing behind --file"),
+            ("bus --fiel f", "there is no option --fiel (did you mean --file?)"),
             ("run --csv box", "there is no option --csv"),
             ("table --csv=x box", "--csv"),
             ("run box -", "no name may begin with -: write ./-"),
@@ -359,6 +408,9 @@ mod tests {
             assert!(said.starts_with("paviluko") && said.ends_with('\n'), "{said}");
         }
         assert!(read(["new".into(), "".into()]).is_err());
+        assert!(read(["bus".into(), " ".into()]).is_err());
+        let bytes = Source::Bytes(vec![0x68, 0x1f]);
+        assert_eq!(read(["bus".into(), "68 1F".into()]), Ok(Wish::Bus(bytes)));
     }
 
     #[test]

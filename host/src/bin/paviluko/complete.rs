@@ -18,10 +18,10 @@ pub fn words(line: &str) -> Vec<String> {
     match before[..] {
         [] | ["help"] => of(&help::names()),
         [name] if word.starts_with('-') => of(help::options(name)),
-        ["take", .., "--csv"] => paths(word, false),
+        ["take", .., "--csv"] | ["take-bus", .., "--file"] => paths(word, false),
         ["swap-card"] | ["copy-card"] | ["swap-card", "--new"] => paths(word, true),
         ["cut"] => of(&["before", "after"]),
-        ["take", ..] if word.starts_with('-') => of(help::options("take")),
+        [name @ ("take" | "take-bus"), ..] if word.starts_with('-') => of(help::options(name)),
         _ => Vec::new(),
     }
 }
@@ -62,6 +62,10 @@ mod tests {
         assert_eq!(words("take --n"), ["--no-tidy"]);
         assert_eq!(words("take --no-tidy --c"), ["--csv"]);
         assert_eq!(words("cut b"), ["before"]);
+        assert_eq!(words("take-"), ["take-bus"]);
+        assert_eq!(words("take-bus 0 5 now --f"), ["--file"]);
+        assert_eq!(words("take-bus 0 5 now --file /dev/nul"), ["/dev/null"]);
+        assert!(words("take-bus 0 5 now 6").is_empty());
         assert!(words("start x").is_empty() && words("nothing").is_empty());
         assert_eq!(words("take --csv /dev/nul"), ["/dev/null"]);
         assert_eq!(words("swap-card /de"), ["/dev/"]);

@@ -32,7 +32,7 @@ const fn entry(form: &'static str, text: &'static str) -> Entry {
     Entry { form, text }
 }
 
-const ENTRIES: [Entry; 21] = [
+const ENTRIES: [Entry; 23] = [
     entry("start", "loads and recovers the box, until it is in service"),
     entry(
         "take LANE STAMP METER=CODE:READING ..",
@@ -41,6 +41,12 @@ const ENTRIES: [Entry; 21] = [
     ),
     entry("take --csv FILE", "the same for a file's lines lane,stamp,meter,code,reading"),
     entry("take --no-tidy ..", "the same, also with --csv; a full box then says 7"),
+    entry(
+        "take-bus LANE METER STAMP HEX ..",
+        "takes the reading in a meter's reply on the wired bus (M-Bus), as take does. HEX are the frame's bytes, \
+         as 68 1F or 681F",
+    ),
+    entry("take-bus LANE METER STAMP --file FILE", "the same for a file with the frame's bytes as they are"),
     entry("accept LANE STAMP METER=CODE:READING ..", "the first half of take: the record is written, not visible"),
     entry("commit POSITION", "the second half: makes the record at a position visible"),
     entry("table [--csv]", "the latest reading of every meter"),
@@ -61,7 +67,7 @@ const ENTRIES: [Entry; 21] = [
 ];
 
 /// The commands that take the name of a folder or a file.
-const NAMING: [&str; 3] = ["take", "swap-card", "copy-card"];
+const NAMING: [&str; 4] = ["take", "take-bus", "swap-card", "copy-card"];
 
 /// The names of all commands.
 pub fn names() -> Vec<&'static str> {
@@ -74,6 +80,7 @@ pub fn names() -> Vec<&'static str> {
 pub fn options(name: &str) -> &'static [&'static str] {
     match name {
         "take" => &["--csv", "--no-tidy"],
+        "take-bus" => &["--file"],
         "table" => &["--csv"],
         "swap-card" => &["--new"],
         _ => &[],
@@ -134,7 +141,7 @@ pub fn bad_option(name: &str, words: &[&str]) -> Option<Answer> {
 }
 
 /// As much of a word as is of use in an answer.
-fn short(word: &str) -> String {
+pub fn short(word: &str) -> String {
     if word.chars().count() <= WIDTH {
         return word.to_string();
     }
@@ -167,7 +174,9 @@ mod tests {
     fn names_are_those_of_the_entries() {
         let names = names();
         assert_eq!(names.first(), Some(&"start"));
-        assert!(names.contains(&"swap-card") && names.contains(&"quit") && !names.contains(&"#"));
-        assert_eq!(names.iter().filter(|name| **name == "take").count(), 1);
+        assert!(names.contains(&"quit") && !names.contains(&"#"));
+        for name in ["take", "take-bus", "swap-card"] {
+            assert_eq!(names.iter().filter(|known| **known == name).count(), 1);
+        }
     }
 }

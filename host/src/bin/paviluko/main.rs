@@ -1,10 +1,11 @@
-//! The fitter's bench: makes a box in a folder, runs it, prints its table, and shows the main job.
+//! The fitter's bench: makes a box in a folder, runs it, prints its table, reads a frame off the bus, and shows the main job.
 //!
 //! `args` reads the command line. A session (`session`) has an answer (`answer`) for each command; `converse` reads the commands,
 //! at a terminal with an `editor`. What is printed fits the screen (`wrap`), and has colours on a terminal alone (`colour`).
 
 mod answer;
 mod args;
+mod bus;
 mod colour;
 mod complete;
 mod converse;
@@ -30,7 +31,7 @@ use paviluko_host::folder::BoxFolder;
 use paviluko_host::runner::Runner;
 use paviluko_host::{Numbers, identity, secret, vault};
 
-use args::{Wish, Wrong};
+use args::{Source, Wish, Wrong};
 use colour::{Colours, Tone};
 use session::Session;
 
@@ -58,6 +59,7 @@ fn command_line() -> io::Result<u8> {
         Ok(Wish::New { dir, vault }) => make(&dir, vault.as_deref()),
         Ok(Wish::Run { dir, script }) => run(&dir, script.as_deref()),
         Ok(Wish::Table { dir, csv }) => table(&dir, csv),
+        Ok(Wish::Bus(source)) => bus(&source),
         Ok(Wish::Demo { dir }) => demo::run(dir.as_deref()),
         Ok(Wish::Help(command)) => print(&command.map_or(args::USAGE.to_string(), |command| command.help())),
         Ok(Wish::Version) => print(&identity::lines(identity::edition(), identity::sources())),
@@ -150,4 +152,27 @@ fn table(dir: &Path, csv: bool) -> io::Result<u8> {
     notice(Tone::Plain, format!("The card is taken: {meters} in the table. Vault and card stay as they are."));
     session::table(&readings, csv).print(&mut io::stdout(), Colours::of(&io::stdout()))?;
     Ok(FINE)
+}
+
+/// `paviluko bus`: what a frame says on standard output; that it is refused, and why, on standard error.
+fn bus(source: &Source) -> io::Result<u8> {
+    let frame = match source {
+        Source::Bytes(bytes) => bytes.clone(),
+        Source::File(path) => match file::frame(path) {
+            Ok(bytes) => bytes,
+            Err(fault) => return failed(fault),
+        },
+    };
+    // Meter and stamp are the caller's, and are not shown.
+    let taken = bus::transaction(&frame, 0, 0);
+    let reading = taken.as_ref().ok().map(|(_, reading)| reading);
+    bus::all(&frame, reading).print(&mut io::stdout(), Colours::of(&io::stdout()))?;
+    match taken {
+        Ok(_) => Ok(FINE),
+        Err(refused) => {
+            // Where nobody reads it, the status says it all the same.
+            let _ = refused.at("paviluko: ").print(&mut io::stderr(), Colours::of(&io::stderr()));
+            Ok(FAILED)
+        }
+    }
 }

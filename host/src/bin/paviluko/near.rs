@@ -38,13 +38,15 @@ mod tests {
 
     #[test]
     fn slips_are_seen() {
-        let words = ["new", "run", "table", "demo", "swap-card"];
+        let words = ["new", "run", "table", "bus", "demo", "take", "take-bus", "swap-card"];
         for (written, meant) in [
             ("nwe", Some("new")),
             ("NEW", Some("new")),
             ("tabel", Some("table")),
             ("swapcard", Some("swap-card")),
             ("rn", Some("run")),
+            ("takebus", Some("take-bus")),
+            ("bsu", Some("bus")),
             ("sell", None),
             ("x", None),
             ("", None),

@@ -149,7 +149,7 @@ fn points(collector: &Collector) -> String {
 }
 
 /// Rows in columns as wide as their widest cell; the columns of words stand to the left.
-fn aligned<const N: usize>(rows: &[[String; N]], words: [bool; N]) -> String {
+pub fn aligned<const N: usize>(rows: &[[String; N]], words: [bool; N]) -> String {
     let mut out = String::new();
     let width = |column: usize| rows.iter().map(|row| row[column].len()).max().unwrap_or(0);
     let widths: [usize; N] = std::array::from_fn(width);

@@ -11,7 +11,7 @@ use paviluko_host::{Phase, Reading, words};
 use crate::answer::{Answer, stopped};
 use crate::args::no_name;
 use crate::colour::Tone;
-use crate::{file, help, screen, stamps};
+use crate::{bus, file, help, screen, stamps};
 
 /// So many warnings of a file are printed, and the rest counted.
 const MOST_WARNINGS: usize = 5;
@@ -70,6 +70,12 @@ impl Session {
             ("take", [lane, stamp, writes @ ..]) if !writes.is_empty() && !lane.starts_with("--") => {
                 self.take(lane, stamp, writes, Way::Take)
             }
+            ("take-bus", [lane, meter, stamp, "--file", file]) => self.take_bus_file(lane, meter, stamp, file),
+            ("take-bus", [lane, meter, stamp, hex @ ..])
+                if !hex.is_empty() && rest.iter().all(|word| !word.starts_with("--")) =>
+            {
+                self.take_bus_hex(lane, meter, stamp, hex)
+            }
             ("accept", [lane, stamp, writes @ ..]) if !writes.is_empty() => self.take(lane, stamp, writes, Way::Accept),
             ("commit", [at]) => self.commit(at),
             ("table", []) => self.table(false),
@@ -112,20 +118,58 @@ impl Session {
             }
         }
         let batch = Batch { line: 0, lane, stamp, writes: list };
-        let warnings = self.warnings(&batch);
-        let (numbered, tidied) = match self.take_batch(&batch, way) {
+        Ok(self.take_one(&batch, &transaction::bytes(stamp, &batch.writes), way, None))
+    }
+
+    /// Takes a transaction in its bytes, and says what became of it; and what it was, if that is to be said.
+    fn take_one(&mut self, batch: &Batch, bytes: &[u8], way: Way, what: Option<String>) -> Answer {
+        let warnings = self.warnings(batch);
+        let and_what = |answer: Answer| what.into_iter().fold(answer, |answer, text| answer.and(Tone::Plain, text));
+        let (numbered, tidied) = match self.take_bytes(batch.lane, bytes, way) {
             Ok(taken) => taken,
-            Err(stop) => return Ok(stopped(stop, &words::FULL_OF_RECORDS)),
+            Err(stop) => return and_what(stopped(stop, &words::FULL_OF_RECORDS)),
         };
         let done = if way == Way::Accept { "accepted, not visible" } else { "visible" };
         let readings = screen::count(batch.writes.len(), "reading");
-        let Numbered { number, position, .. } = numbered;
+        let Numbered { lane, number, position } = numbered;
         let text = format!("{done}: lane {lane}, number {number}, {readings}, record at position {position}");
-        let mut answer = Answer::fine(text);
+        let mut answer = and_what(Answer::fine(text));
         if let Some(tidied) = tidied {
             answer = answer.and(Tone::Plain, format!("room was made first: {}", made(&tidied)));
         }
-        Ok(warnings.iter().fold(answer, |answer, text| answer.and(Tone::Warning, format!("warning: {text}"))))
+        warnings.iter().fold(answer, |answer, text| answer.and(Tone::Warning, format!("warning: {text}")))
+    }
+
+    /// Takes the reading in a frame, which is written in hexadecimal.
+    fn take_bus_hex(&mut self, lane: &str, meter: &str, stamp: &str, hex: &[&str]) -> Result<Answer, Stop> {
+        match bus::bytes(hex) {
+            Ok(frame) => Ok(self.take_bus(lane, meter, stamp, &frame)),
+            Err(how) => Ok(Answer::wrong(&how)),
+        }
+    }
+
+    /// The same for a frame in a file.
+    fn take_bus_file(&mut self, lane: &str, meter: &str, stamp: &str, name: &str) -> Result<Answer, Stop> {
+        let path = Path::new(name);
+        if let Some(why) = no_name(path) {
+            return Ok(Answer::failed(format!("wrong command: {why}")));
+        }
+        let frame = file::frame(path)?;
+        Ok(self.take_bus(lane, meter, stamp, &frame))
+    }
+
+    /// Takes the reading in a frame: the library makes a transaction of it.
+    fn take_bus(&mut self, lane: &str, meter: &str, stamp: &str, frame: &[u8]) -> Answer {
+        let Some(lane) = transaction::lane(lane) else { return Answer::wrong("the lane as a number, 0 to 7") };
+        let Ok(meter) = meter.parse() else { return Answer::wrong("the meter as a number, 0 to 255") };
+        let Some(stamp) = seconds(stamp) else { return Answer::wrong("the stamp in seconds, or now") };
+        match bus::transaction(frame, meter, stamp) {
+            Ok((bytes, reading)) => {
+                let batch = Batch { line: 0, lane, stamp, writes: vec![reading] };
+                self.take_one(&batch, &bytes, Way::Take, Some(bus::line(frame, &reading)))
+            }
+            Err(refused) => refused,
+        }
     }
 
     /// Takes the transactions of a file, until one is refused.
@@ -145,7 +189,7 @@ impl Session {
         let (mut readings, mut rooms, mut warnings) = (0, 0, Vec::new());
         for (done, batch) in batches.iter().enumerate() {
             let odd = self.warnings(batch);
-            match self.take_batch(batch, way) {
+            match self.take_bytes(batch.lane, &transaction::bytes(batch.stamp, &batch.writes), way) {
                 Ok((_, tidied)) => rooms += usize::from(tidied.is_some()),
                 Err(stop) => {
                     let before = screen::count(done, "transaction");
@@ -167,13 +211,12 @@ impl Session {
         Ok(warned(Answer::fine(said), &warnings))
     }
 
-    /// Takes a transaction; and what was done to make room for it.
-    fn take_batch(&mut self, batch: &Batch, way: Way) -> Result<(Numbered, Option<Tidied>), Stop> {
-        let bytes = transaction::bytes(batch.stamp, &batch.writes);
+    /// Takes a transaction in its bytes; and what was done to make room for it.
+    fn take_bytes(&mut self, lane: u8, bytes: &[u8], way: Way) -> Result<(Numbered, Option<Tidied>), Stop> {
         match way {
-            Way::Take => self.runner.take_tidy(batch.lane, &bytes),
-            Way::TakeOnly => Ok((self.runner.take(batch.lane, &bytes)?, None)),
-            Way::Accept => Ok((self.runner.accept(batch.lane, &bytes)?, None)),
+            Way::Take => self.runner.take_tidy(lane, bytes),
+            Way::TakeOnly => Ok((self.runner.take(lane, bytes)?, None)),
+            Way::Accept => Ok((self.runner.accept(lane, bytes)?, None)),
         }
     }
 
