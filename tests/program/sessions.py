@@ -16,6 +16,7 @@ import select
 import signal
 import sys
 import tempfile
+import termios
 import time
 
 INDENT = "    "
@@ -24,6 +25,8 @@ PROGRAM = "target-rust/release/paviluko"
 PROMPT = "paviluko> "
 # A terminal that can move its cursor, and whoever sits there wants no colours.
 PLAIN = {"TERM": "xterm", "NO_COLOR": "1"}
+# As wide as the longest line that a document types, so that none of it goes out of sight.
+COLUMNS = 200
 # How long a prompt, or the end of a command, is waited for.
 SECONDS = 60
 
@@ -60,7 +63,7 @@ def commands(block):
 class Terminal:
     """A command at a terminal: what it showed so far, without carriage returns."""
 
-    def __init__(self, command, folder, around=PLAIN):
+    def __init__(self, command, folder, around=PLAIN, columns=0):
         self.shown = ""
         # How much was shown when something was typed last.
         self.answered = 0
@@ -70,6 +73,7 @@ class Terminal:
             # As a shell starts it, whatever signals are ignored around this test.
             for name in (signal.SIGINT, signal.SIGQUIT, signal.SIGHUP, signal.SIGPIPE):
                 signal.signal(name, signal.SIG_DFL)
+            termios.tcsetwinsize(0, (0, columns))
             os.chdir(folder)
             kept = {name: value for name, value in os.environ.items() if name not in PLAIN}
             os.execve("/bin/sh", ["sh", "-c", command], kept | around)
@@ -110,7 +114,7 @@ def transcript(block, folder):
     """What a terminal shows of the block's commands."""
     shown = ""
     for command, typed in commands(block):
-        terminal = Terminal(command, folder)
+        terminal = Terminal(command, folder, columns=COLUMNS)
         try:
             terminal.wait()
             for line in typed:
