@@ -1,8 +1,10 @@
-//! The sealed log once more: a model, written from the scope alone, for the tests to hold the library against.
+//! The sealed log once more: a model, written from the scope and the requests alone, for the tests to hold the library
+//! against.
 //!
 //! It shares no code with the library. The cipher is OpenSSL's. Limits and the order of readings are values (`Params`).
 //! Operations change the model only where they are taken.
 
+pub mod bus;
 pub mod card;
 pub mod cipher;
 pub mod model;
@@ -11,6 +13,7 @@ pub mod sealed;
 pub mod table;
 pub mod vault;
 
+pub use bus::from_bus;
 pub use card::{Book, Card};
 pub use cipher::Cipher;
 pub use model::{Due, Held, Listed, Model, Phase, Point, Refusal, Store, Taken};
