@@ -21,7 +21,7 @@ use Rattle.bus.specs.Digits.{digitsIn, decimal, allDigits, minus, readin
 
 -- ---- four bytes, and their eight digits
 
-four : (s : List ℕ) → padded 4 s ≡ at s 0 ∷ at s 1 ∷ at s 2 ∷ at s 3 ∷ []
+pub four : (s : List ℕ) → padded 4 s ≡ at s 0 ∷ at s 1 ∷ at s 2 ∷ at s 3 ∷ []
 unfolding padded
 four [] = refl
 four (a ∷ []) = refl

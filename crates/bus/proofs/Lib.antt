@@ -6,3 +6,6 @@ pub mod LookLaws
 pub mod SearchLaws
 pub mod FrameLaws
 pub mod AnswerLaws
+pub mod BuiltLaws
+pub mod TakenLaws
+pub mod Theorem

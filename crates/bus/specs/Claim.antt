@@ -1,0 +1,109 @@
+-- What holds of the definitions of CR 1, whatever the frame. Digits, records and frames stand here as one writes them, and not as they are read,
+-- so that a definition that reads them wrongly is found out. The proof is in proofs/Theorem.antt.
+-- Assumes nothing.
+use Prim.Native.Nat.{ℕ, zero, suc, _+_, _*_, _/_, _%_, _^_, _<_, _≤_}
+use mathlib.Core.Path.{_≡_}
+use mathlib.Core.Bool.{true, false}
+use mathlib.Core.List.{List, [], _∷_, _++_}
+use lib.IntN.{ℤ, pos, negsuc}
+use lib.ListN.{length}
+use Rattle.octets.specs.Lists.{at}
+use Rattle.transaction.specs.Transaction.{meters, minText, writeCount, stampOf, meterAt, legal, oneWrite}
+use Rattle.protocol.specs.declared.State.{State}
+use Rattle.protocol.specs.declared.Store.the-variants as S
+use Rattle.protocol.specs.Said.{refused, taken}
+use Rattle.protocol.specs.Accept.{accept}
+use Rattle.bus.specs.declared.DataLen.the-variants as D
+use Rattle.bus.specs.declared.Found.the-variants as F
+use Rattle.bus.specs.Frame.{headerLen, replyCi, replyC, isReply, longFrame, bytesIn, unbroken}
+use Rattle.bus.specs.Medium.{codeOf, unitOf}
+use Rattle.bus.specs.Digits.{readingOf}
+use Rattle.bus.specs.Records.{filler, wantedDif, dataLen, unusableVif, firstReading}
+use Rattle.bus.specs.Answer.{fromBus}
+
+-- ---- digits, written
+
+-- the k lowest digits of n, the lowest first, and then others
+unfoldable pub digitsOf : ℕ → ℕ → List ℕ → List ℕ
+digitsOf zero n others = others
+digitsOf (suc k) n others = n % 10 ∷ digitsOf k (n / 10) others
+
+-- two in a byte
+unfoldable pub packed : List ℕ → List ℕ
+packed [] = []
+packed (a ∷ []) = a ∷ []
+packed (a ∷ (b ∷ s)) = (a + 16 * b) ∷ packed s
+
+-- of a number, or of a negative one, whose top digit is F
+unfoldable pub bcd : ℤ → List ℕ
+bcd (pos n) = packed (digitsOf 8 n [])
+bcd (negsuc n) = packed (digitsOf 7 (suc n) (0x0f ∷ []))
+
+-- eight digits, or seven and the sign
+unfoldable pub EightDigits : ℤ → Type 0
+EightDigits (pos n) = n ≤ 99999999
+EightDigits (negsuc n) = suc n ≤ 9999999
+
+-- ---- records, written
+
+-- a DIF or a VIF with its extension bytes: all but the last have the top bit set
+unfoldable pub Field : List ℕ → Type 0
+Field [] = ⊥
+Field (x ∷ []) = x < 0x80
+Field (x ∷ (y ∷ s)) = (0x80 ≤ x) × Field (y ∷ s)
+
+-- a whole record that is neither taken in this unit nor the end of the search
+pub record Unwanted (unit : ℕ) (r : List ℕ) : Type 0 where
+  pub dif : List ℕ
+  pub vif : List ℕ
+  pub content : List ℕ
+  pub parts : r ≡ dif ++ (vif ++ content)
+  pub difField : Field dif
+  pub vifField : Field vif
+  pub noFiller : at dif 0 ≡ filler → ⊥
+  pub sized : dataLen (at dif 0) ≡ D.Bytes (length content)
+  pub plain : unusableVif (at vif 0) ≡ false
+  pub other : at dif 0 ≡ wantedDif → at vif 0 ≡ unit → ⊥
+
+-- what may stand before the record that is taken
+pub data Before (unit : ℕ) : List ℕ → Type 0 where
+  nothing : Before unit []
+  fillerThen : (s : List ℕ) → Before unit s → Before unit (filler ∷ s)
+  recordThen : (r s : List ℕ) → Unwanted unit r → Before unit s → Before unit (r ++ s)
+
+-- the L bytes of a reply
+abbrev pub replyBytes : ℕ → ℕ → List ℕ → List ℕ → List ℕ
+replyBytes c address header records = c ∷ address ∷ replyCi ∷ (header ++ records)
+
+-- ---- a transaction of one write
+
+pub record OneWriteTo (meter stamp : ℕ) (t : List ℕ) : Type 0 where
+  pub inLayout : legal t ≡ true
+  pub single : writeCount t ≡ 1
+  pub stamped : stampOf t ≡ stamp
+  pub metered : meterAt t 0 ≡ meter
+
+-- ---- the claim
+
+pub record Claim : Type 0 where
+  -- what is taken is a transaction of one write to that meter with that stamp
+  pub taken-is-one-write : (f : List ℕ) (meter stamp room : ℕ) → stamp < 2 ^ 64 → fromBus f meter stamp room .said ≡ taken S.Nothing minText
+      → OneWriteTo meter stamp (fromBus f meter stamp room .put)
+  -- so Accept never says 4 to it
+  pub accept-never-says-4 : (f : List ℕ) (meter stamp room : ℕ) → stamp < 2 ^ 64 → fromBus f meter stamp room .said ≡ taken S.Nothing minText
+      → (c : State) (lane position : ℕ) → accept c (fromBus f meter stamp room .put) lane position .said ≡ refused 4 [] → ⊥
+  -- every number of eight digits, or of seven and the sign, is the reading of its digits
+  pub every-number-is-read : (v : ℤ) (rest : List ℕ) → EightDigits v → readingOf (bcd v ++ rest) ≡ F.Reading v
+  -- a filler or a whole unwanted record in front of the rest changes nothing
+  pub filler-is-passed : (unit : ℕ) (s : List ℕ) → firstReading unit (filler ∷ s) ≡ firstReading unit s
+  pub unwanted-is-passed : (unit : ℕ) (r s : List ℕ) → Unwanted unit r → firstReading unit (r ++ s) ≡ firstReading unit s
+  -- a reply with any C, address and header of a listed medium, with fillers and whole unwanted records, the wanted one and whatever stands behind it,
+  -- gives its reading
+  pub built-reply-is-taken : (c address : ℕ) (header records rest : List ℕ) (v : ℤ) (meter stamp room : ℕ) → replyC c ≡ true → length header ≡ headerLen
+      → (codeOf (at header 7) ≡ 0 → ⊥) → Before (unitOf (codeOf (at header 7))) records → EightDigits v → meter < meters → minText ≤ room
+      → let f = longFrame (replyBytes c address header (records ++ (wantedDif ∷ unitOf (codeOf (at header 7)) ∷ (bcd v ++ rest)))) in
+      (fromBus f meter stamp room .said ≡ taken S.Nothing minText)
+      × (fromBus f meter stamp room .put ≡ oneWrite stamp (record { meter = meter; code = codeOf (at header 7); spare = 0; reading = v }))
+  -- a frame is unbroken exactly if it is built around the L bytes of a reply
+  pub unbroken-is-built : (f : List ℕ) → unbroken f ≡ true → (f ≡ longFrame (bytesIn f)) × (isReply (bytesIn f) ≡ true)
+  pub built-is-unbroken : (b : List ℕ) → isReply b ≡ true → (unbroken (longFrame b) ≡ true) × (bytesIn (longFrame b) ≡ b)
