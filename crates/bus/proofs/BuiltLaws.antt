@@ -21,7 +21,7 @@ use Rattle.bus.specs.declared.Found.{Found}
 use Rattle.bus.specs.declared.Found.the-variants as F
 use Rattle.bus.specs.Digits.{digitsIn, decimal, allDigits, minus, readingBy, readingOf}
 use Rattle.bus.specs.Records.{filler, wantedDif, dataLen, fieldLen, difOf, vifOf, unusableVif, recordLen, wanted, look, firstReading, dataPlace}
-use Rattle.bus.specs.Claim.{digitsOf, packed, bcd, EightDigits, Field, Unwanted, Before, nothing, fillerThen, recordThen}
+use Rattle.bus.specs.Claim.{digitsOf, packed, bcd, EightDigits, Written, digits, minusZero, Field, Unwanted, Before, nothing, fillerThen, recordThen}
 use Rattle.bus.proofs.LookLaws.{look-filler, look-take, look-pass}
 use Rattle.bus.proofs.SearchLaws.{search-pass, search-take}
 
@@ -90,6 +90,17 @@ pub every-number : (v : ℤ) (rest : List ℕ) → EightDigits v → readingOf (
 unfolding readingOf bcd EightDigits minus
 every-number (pos n) rest h = ap readingBy (eight-digits n rest) ∙ read-plain n (omega arith)
 every-number (negsuc n) rest h = ap readingBy (seven-digits (suc n) 0x0f rest) ∙ read-minus (suc n) (omega arith)
+
+pub written-read : (v : ℤ) (b rest : List ℕ) → Written v b → readingOf (b ++ rest) ≡ F.Reading v
+unfolding readingOf minus
+written-read v b rest (digits w e) = every-number w rest e
+written-read v b rest minusZero = ap readingBy (seven-digits 0 0x0f rest) ∙ read-minus 0 (omega arith)
+
+pub length-written : (v : ℤ) (b : List ℕ) → Written v b → length b ≡ 4
+unfolding bcd packed digitsOf
+length-written v b (digits (pos n) e) = refl
+length-written v b (digits (negsuc n) e) = refl
+length-written v b minusZero = refl
 
 -- ---- fields
 
@@ -178,16 +189,11 @@ before-passes unit b (recordThen r t u p) s = ap (firstReading unit) (append-ass
 
 -- ---- the record that is taken
 
-length-bcd : (v : ℤ) → length (bcd v) ≡ 4
-unfolding bcd packed digitsOf
-length-bcd (pos n) = refl
-length-bcd (negsuc n) = refl
-
-module _ (unit : ℕ) (l : unit < 0x7c) (v : ℤ) (rest : List ℕ) where
+module _ (unit : ℕ) (l : unit < 0x7c) (content rest : List ℕ) where
   abbrev here : List ℕ
-  here = wantedDif ∷ unit ∷ (bcd v ++ rest)
+  here = wantedDif ∷ unit ∷ (content ++ rest)
 
-  here-fields : (fieldLen here ≡ 1) × (fieldLen (unit ∷ (bcd v ++ rest)) ≡ 1)
+  here-fields : (fieldLen here ≡ 1) × (fieldLen (unit ∷ (content ++ rest)) ≡ 1)
   unfolding fieldLen
   here-fields = (refl, rw (lt-ltb unit 0x80 (omega arith)))
 
@@ -210,8 +216,8 @@ module _ (unit : ℕ) (l : unit < 0x7c) (v : ℤ) (rest : List ℕ) where
   unfolding dataLen
   here-sized = refl
 
-  pub wanted-taken : EightDigits v → firstReading unit here ≡ F.Reading v
-  wanted-taken h =
-      let a = length-append (bcd v) rest in
-      let b = length-bcd v in
-      search-take unit here (look-take unit here (λ e. omega arith) (λ e. omega arith) 4 here-sized here-plain (omega (arith, here-len)) here-wanted) ∙ every-number v rest h
+  pub wanted-taken : (v : ℤ) → Written v content → firstReading unit here ≡ F.Reading v
+  wanted-taken v w =
+      let a = length-append content rest in
+      let b = length-written v content w in
+      search-take unit here (look-take unit here (λ e. omega arith) (λ e. omega arith) 4 here-sized here-plain (omega (arith, here-len)) here-wanted) ∙ written-read v content rest w

@@ -4,17 +4,25 @@ use Prim.Native.Nat.{ℕ, zero, suc, _+_, _-_, _%_, _<_, _≤_}
 use mathlib.Core.Path.{_≡_, refl, sym, ap, ap₂, _∙_}
 use mathlib.Core.Bool.{Bool, true, false, _&&_}
 use mathlib.Core.List.{List, [], _∷_, _++_}
-use native.Mathlib.Nat.{not-suc-le-zero}
+use native.Mathlib.Nat.{add-zero}
 use native.Mathlib.Omega.{arith}
 use lib.Dec.{leb, eqb}
 use lib.ListN.{length, take, drop, length-drop, length-append, take-append-drop, drop-of-length-le}
 use lib.Seq.{length-take-le, getD-take, getD-drop, take-add, drop-drop, drop-cons, take-at, drop-at, getD-append-seam, getD-append-add}
 use borrow.Author.Tests.{leb-true, eqb-true, eq-eqb, ne-eqb, le-leb, lt-leb}
 use borrow.Rule.Slice.PartMut.{midOf}
-use Rattle.octets.specs.Lists.{at}
+use Rattle.octets.specs.Lists.{at, from}
 use Rattle.octets.proofs.BoolLaws.{and-assoc, and-false, and-left, and-right}
 use Rattle.octets.proofs.EveryLaws.{and-both}
 use Rattle.bus.specs.Frame.{startByte, stopByte, openLen, closeLen, leastL, replyCi, sum, replyC, isReply, longFrame, lenIn, bytesIn, sumIn, stopIn, unbroken}
+
+-- ---- the bytes of a list by their places, and the rest
+
+pub places : (n i : ℕ) (s : List ℕ) → i + n ≤ length s → drop i s ≡ from i n (at s) ++ drop (i + n) s
+places zero i s h = ap (λ (k : ℕ). drop k s) (sym (add-zero i))
+places (suc n) i s h =
+    drop-cons s i 0 (omega arith)
+    ∙ ap (λ (t : List ℕ). at s i ∷ t) (places n (suc i) s (omega arith) ∙ ap (λ (k : ℕ). from (suc i) n (at s) ++ drop k s) (let e : suc i + n ≡ i + suc n = omega arith in e))
 
 -- ---- of L + 6 bytes
 
@@ -105,17 +113,10 @@ unbroken-least f e =
 
 -- ---- it is built around its L bytes
 
-opened : (f : List ℕ) → openLen ≤ length f → f ≡ at f 0 ∷ at f 1 ∷ at f 2 ∷ at f 3 ∷ drop openLen f
-opened [] h = absurd (let z : 0 < 0 = omega arith in not-suc-le-zero z)
-opened (a ∷ []) h = absurd (let z : 0 < 0 = omega arith in not-suc-le-zero z)
-opened (a ∷ b ∷ []) h = absurd (let z : 0 < 0 = omega arith in not-suc-le-zero z)
-opened (a ∷ b ∷ c ∷ []) h = absurd (let z : 0 < 0 = omega arith in not-suc-le-zero z)
-opened (a ∷ b ∷ c ∷ d ∷ f) h = refl
-
 closed : (f : List ℕ) (n : ℕ) → length f ≡ n + closeLen → drop n f ≡ at f n ∷ at f (n + 1) ∷ []
 closed f n e =
-    drop-cons f n 0 (omega arith)
-    ∙ ap (λ (l : List ℕ). at f n ∷ l) (drop-cons f (suc n) 0 (omega arith) ∙ ap₂ (λ (k : ℕ) (l : List ℕ). at f k ∷ l) (let e : suc n ≡ n + 1 = omega arith in e) (drop-of-length-le f {i = suc (suc n)} (omega arith)))
+    places closeLen n f (omega arith)
+    ∙ ap₂ (λ (k : ℕ) (l : List ℕ). at f n ∷ at f k ∷ l) (let e : suc n ≡ n + 1 = omega arith in e) (drop-of-length-le f {i = n + closeLen} (omega arith))
 
 pub unbroken-built : (f : List ℕ) → unbroken f ≡ true → f ≡ longFrame (bytesIn f)
 unfolding longFrame
@@ -126,7 +127,7 @@ unbroken-built f e =
     let rest : drop n (drop openLen f) ≡ sum (bytesIn f) % 256 ∷ stopByte ∷ [] =
     drop-drop n openLen f ∙ closed f (openLen + n) (u .long) ∙ ap₂ (λ (x y : ℕ). x ∷ y ∷ []) (u .summed) (u .stops) in
     let body : drop openLen f ≡ bytesIn f ++ (sum (bytesIn f) % 256 ∷ stopByte ∷ []) = sym (take-append-drop n (drop openLen f)) ∙ ap (λ (r : List ℕ). bytesIn f ++ r) rest in
-    opened f (let g = u .long in omega arith)
+    places openLen 0 f (let g = u .long in omega arith)
     ∙ (λ i. u .first i ∷ sym l i ∷ (u .again ∙ sym l) i ∷ u .fourth i ∷ body i)
 
 -- ---- whatever is built so is unbroken, and has these L bytes

@@ -8,4 +8,5 @@ pub mod FrameLaws
 pub mod AnswerLaws
 pub mod BuiltLaws
 pub mod TakenLaws
+pub mod ApartLaws
 pub mod Theorem

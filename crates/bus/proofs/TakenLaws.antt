@@ -10,7 +10,7 @@ use lib.Dec.{leb, ltb, eqb, lit≤}
 use lib.IntN.{ℤ, pos}
 use lib.Signed.{mag}
 use lib.ListN.{length, take, drop}
-use borrow.Author.Tests.{ltb-false, leb-true, leb-false, eqb-true, eqb-false, le-leb, lt-ltb}
+use borrow.Author.Tests.{ltb-false, leb-true, leb-false, eqb-true, eqb-false, le-leb, lt-ltb, not-false}
 use Rattle.octets.specs.Lists.{at}
 use Rattle.octets.specs.Bytes.{padded}
 use Rattle.octets.proofs.BoolLaws.{and-left, and-right}
@@ -44,7 +44,7 @@ abbrev Small : Found → Type 0
 Small (F.Reading z) = mag z < 2 ^ 31
 Small F.Nothing = Unit {0}
 
-decimal-lt : (ds : List ℕ) → allDigits ds ≡ true → decimal ds < 10 ^ length ds
+pub decimal-lt : (ds : List ℕ) → allDigits ds ≡ true → decimal ds < 10 ^ length ds
 unfolding decimal allDigits
 decimal-lt [] e = omega arith
 decimal-lt (d ∷ ds) e =
@@ -127,25 +127,39 @@ isTaken : Said → Bool
 isTaken (refused n vs) = false
 isTaken (taken st n) = true
 
-not-taken : {X : Type 0} (n : ℕ) (vs : List ℕ) → refused n vs ≡ taken S.Nothing minText → X
+pub not-taken : {X : Type 0} (n : ℕ) (vs : List ℕ) → refused n vs ≡ taken S.Nothing minText → X
 unfolding isTaken
 not-taken n vs e = let z : false ≡ true = ap isTaken e in let w : _≡_ {A = ℕ} 0 1 = cc in absurd (omega arith)
 
+-- what is turned down is not taken
+abbrev Where-taken : (Told → Type 0) → Told → Type 0
+Where-taken P a = a .said ≡ taken S.Nothing minText → P a
+
+behind : (P : Told → Type 0) (b : Bool) (n : ℕ) (vs : List ℕ) (other : Told) → (b ≡ false → Where-taken P other) → Where-taken P (turnDown b n vs other)
+unfolding turnDown
+behind P true n vs other h e = not-taken n vs e
+behind P false n vs other h e = h refl e
+
+-- so something holds of what is taken, if it holds of what is heard, of a meter that there is and an unbroken frame
+pub of-taken : (P : Told → Type 0) (f : List ℕ) (meter stamp room : ℕ) → (minText ≤ room → meter < meters → unbroken f ≡ true → Where-taken P (heard meter stamp (codeIn f) (readingIn (codeIn f) f)))
+    → Where-taken P (fromBus f meter stamp room)
+unfolding fromBus
+of-taken P f meter stamp room h =
+    behind P (ltb room minText) 3 (minText ∷ []) _
+    (λ r. behind P (leb meters meter) 4 [] _
+    (λ m. behind P (not (unbroken f)) 16 [] _
+    (λ u. h (ltb-false room minText r) (leb-false meters meter m) (not-false (unbroken f) u))))
+
 -- an answer that puts out a transaction of one write where it is taken
 abbrev Fine : ℕ → ℕ → Told → Type 0
-Fine meter stamp a = a .said ≡ taken S.Nothing minText → OneWriteTo meter stamp (a .put)
-
-turn-fine : (meter stamp : ℕ) (b : Bool) (n : ℕ) (vs : List ℕ) (other : Told) → (b ≡ false → Fine meter stamp other) → Fine meter stamp (turnDown b n vs other)
-unfolding turnDown
-turn-fine meter stamp true n vs other h e = not-taken n vs e
-turn-fine meter stamp false n vs other h e = h refl e
+Fine meter stamp a = OneWriteTo meter stamp (a .put)
 
 module _ (meter stamp : ℕ) (m : meter < meters) (l : stamp < 2 ^ 64) where
   write-legal : (code : ℕ) (z : ℤ) → 1 ≤ code → code ≤ 4 → legalWrite (record { meter = meter; code = code; spare = 0; reading = z }) 0 ≡ true
   unfolding legalWrite
   write-legal code z a b = rw (le-leb 0 meter (omega arith), lt-ltb meter meters m, le-leb 1 code a, le-leb code 4 b)
 
-  heard-fine : (code : ℕ) (r : Found) → code ≤ 4 → Coded code r → Fine meter stamp (heard meter stamp code r)
+  heard-fine : (code : ℕ) (r : Found) → code ≤ 4 → Coded code r → Where-taken (Fine meter stamp) (heard meter stamp code r)
   unfolding heard Coded
   heard-fine code (F.Reading z) few c e =
       let w : Write = record { meter = meter; code = code; spare = 0; reading = z } in
@@ -160,12 +174,10 @@ module _ (meter stamp : ℕ) (m : meter < meters) (l : stamp < 2 ^ 64) where
 
 pub taken-one : (f : List ℕ) (meter stamp room : ℕ) → stamp < 2 ^ 64 → fromBus f meter stamp room .said ≡ taken S.Nothing minText
     → OneWriteTo meter stamp (fromBus f meter stamp room .put)
-unfolding fromBus codeIn
+unfolding codeIn
 taken-one f meter stamp room l =
-    turn-fine meter stamp (ltb room minText) 3 (minText ∷ []) _
-    (λ _. turn-fine meter stamp (leb meters meter) 4 [] _
-    (λ m. turn-fine meter stamp (not (unbroken f)) 16 [] _
-    (λ _. heard-fine meter stamp (leb-false meters meter m) l (codeIn f) (readingIn (codeIn f) f) (code-few (at (bytesIn f) mediumPlace)) (reading-coded (codeIn f) f))))
+    of-taken (Fine meter stamp) f meter stamp room
+    (λ _ m _. heard-fine meter stamp m l (codeIn f) (readingIn (codeIn f) f) (code-few (at (bytesIn f) mediumPlace)) (reading-coded (codeIn f) f))
 
 -- ---- Accept says 4 to what is not in its layout, and to nothing else
 

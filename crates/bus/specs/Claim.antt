@@ -44,6 +44,11 @@ unfoldable pub EightDigits : ℤ → Type 0
 EightDigits (pos n) = n ≤ 99999999
 EightDigits (negsuc n) = suc n ≤ 9999999
 
+-- the data of a record that has this reading: its digits; and a sign before seven zeros is 0
+pub data Written : ℤ → List ℕ → Type 0 where
+  digits : (v : ℤ) → EightDigits v → Written v (bcd v)
+  minusZero : Written (pos 0) (packed (digitsOf 7 0 (0x0f ∷ [])))
+
 -- ---- records, written
 
 -- a DIF or a VIF with its extension bytes: all but the last have the top bit set
@@ -71,9 +76,36 @@ pub data Before (unit : ℕ) : List ℕ → Type 0 where
   fillerThen : (s : List ℕ) → Before unit s → Before unit (filler ∷ s)
   recordThen : (r s : List ℕ) → Unwanted unit r → Before unit s → Before unit (r ++ s)
 
--- the L bytes of a reply
-abbrev pub replyBytes : ℕ → ℕ → List ℕ → List ℕ → List ℕ
-replyBytes c address header records = c ∷ address ∷ replyCi ∷ (header ++ records)
+-- ---- a reply, written
+
+-- the frame of a reply of this code, with this reading: any C of a reply, address and header of the code's medium, fillers and whole unwanted records,
+-- the wanted one, and whatever stands behind it
+pub record Built (f : List ℕ) (code : ℕ) (v : ℤ) : Type 0 where
+  pub c : ℕ
+  pub address : ℕ
+  pub header : List ℕ
+  pub records : List ℕ
+  pub content : List ℕ
+  pub rest : List ℕ
+  pub replying : replyC c ≡ true
+  pub headed : length header ≡ headerLen
+  pub coded : codeOf (at header 7) ≡ code
+  pub listed : code ≡ 0 → ⊥
+  pub before : Before (unitOf code) records
+  pub written : Written v content
+  pub frame : f ≡ longFrame (c ∷ address ∷ replyCi ∷ (header ++ (records ++ (wantedDif ∷ unitOf code ∷ (content ++ rest)))))
+
+-- it is taken: nothing is refused, and the transaction of this one write is put out
+pub record TakenAs (f : List ℕ) (meter stamp room code : ℕ) (v : ℤ) : Type 0 where
+  pub saying : fromBus f meter stamp room .said ≡ taken S.Nothing minText
+  pub putting : fromBus f meter stamp room .put ≡ oneWrite stamp (record { meter = meter; code = code; spare = 0; reading = v })
+
+-- some code and reading of which a frame is the reply
+pub record Reply (f : List ℕ) (meter stamp room : ℕ) : Type 0 where
+  pub code : ℕ
+  pub reading : ℤ
+  pub built : Built f code reading
+  pub takenAs : TakenAs f meter stamp room code reading
 
 -- ---- a transaction of one write
 
@@ -92,18 +124,14 @@ pub record Claim : Type 0 where
   -- so Accept never says 4 to it
   pub accept-never-says-4 : (f : List ℕ) (meter stamp room : ℕ) → stamp < 2 ^ 64 → fromBus f meter stamp room .said ≡ taken S.Nothing minText
       → (c : State) (lane position : ℕ) → accept c (fromBus f meter stamp room .put) lane position .said ≡ refused 4 [] → ⊥
-  -- every number of eight digits, or of seven and the sign, is the reading of its digits
+  -- every number from -9,999,999 to 99,999,999 is the reading of its digits
   pub every-number-is-read : (v : ℤ) (rest : List ℕ) → EightDigits v → readingOf (bcd v ++ rest) ≡ F.Reading v
   -- a filler or a whole unwanted record in front of the rest changes nothing
   pub filler-is-passed : (unit : ℕ) (s : List ℕ) → firstReading unit (filler ∷ s) ≡ firstReading unit s
   pub unwanted-is-passed : (unit : ℕ) (r s : List ℕ) → Unwanted unit r → firstReading unit (r ++ s) ≡ firstReading unit s
-  -- a reply with any C, address and header of a listed medium, with fillers and whole unwanted records, the wanted one and whatever stands behind it,
-  -- gives its reading
-  pub built-reply-is-taken : (c address : ℕ) (header records rest : List ℕ) (v : ℤ) (meter stamp room : ℕ) → replyC c ≡ true → length header ≡ headerLen
-      → (codeOf (at header 7) ≡ 0 → ⊥) → Before (unitOf (codeOf (at header 7))) records → EightDigits v → meter < meters → minText ≤ room
-      → let f = longFrame (replyBytes c address header (records ++ (wantedDif ∷ unitOf (codeOf (at header 7)) ∷ (bcd v ++ rest)))) in
-      (fromBus f meter stamp room .said ≡ taken S.Nothing minText)
-      × (fromBus f meter stamp room .put ≡ oneWrite stamp (record { meter = meter; code = codeOf (at header 7); spare = 0; reading = v }))
+  -- a reply that is built gives its reading, and nothing else is taken
+  pub built-is-taken : (f : List ℕ) (meter stamp room code : ℕ) (v : ℤ) → Built f code v → meter < meters → minText ≤ room → TakenAs f meter stamp room code v
+  pub taken-is-built : (f : List ℕ) (meter stamp room : ℕ) → fromBus f meter stamp room .said ≡ taken S.Nothing minText → Reply f meter stamp room
   -- a frame is unbroken exactly if it is built around the L bytes of a reply
   pub unbroken-is-built : (f : List ℕ) → unbroken f ≡ true → (f ≡ longFrame (bytesIn f)) × (isReply (bytesIn f) ≡ true)
   pub built-is-unbroken : (b : List ℕ) → isReply b ≡ true → (unbroken (longFrame b) ≡ true) × (bytesIn (longFrame b) ≡ b)
