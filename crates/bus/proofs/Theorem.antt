@@ -22,7 +22,7 @@ use Rattle.bus.specs.Frame.{fieldsLen, headerLen, leastL, mediumPlace, r
 use Rattle.bus.specs.Medium.{litres, kilowattHours, codeOf, unitOf}
 use Rattle.bus.specs.Records.{wantedDif, firstReading}
 use Rattle.bus.specs.Answer.{Told, saidBy, codeIn, readingIn, heard, fromBus}
-use Rattle.bus.specs.Claim.{Built, TakenAs, Reply, Claim}
+use Rattle.bus.specs.Claim.{Built, TakenAs, TakenReply, BusClaim}
 use Rattle.bus.proofs.FrameLaws.{places, reply-long, unbroken-facts, unbroken-built, framed-unbroken, bytes-framed}
 use Rattle.bus.proofs.BuiltLaws.{every-number, filler-passes, unwanted-passes, before-passes, wanted-taken}
 use Rattle.bus.proofs.AnswerLaws.{written, answer-taken}
@@ -126,19 +126,19 @@ module _ (f : List ℕ) (u : unbroken f ≡ true) (v : ℤ) where
       (reading-by (eqb (codeIn f) 0) F.Nothing (firstReading (unitOf (codeIn f)) (drop leastL (bytesIn f))) e)
 
 module _ (f : List ℕ) (meter stamp room : ℕ) where
-  replied : minText ≤ room → meter < meters → unbroken f ≡ true → (r : Found) → readingIn (codeIn f) f ≡ r → heard meter stamp (codeIn f) r .said ≡ taken S.Nothing minText → Reply f meter stamp room
+  replied : minText ≤ room → meter < meters → unbroken f ≡ true → (r : Found) → readingIn (codeIn f) f ≡ r → heard meter stamp (codeIn f) r .said ≡ taken S.Nothing minText → TakenReply f meter stamp room
   unfolding heard
   replied room-fits m u (F.Reading v) e s =
       let b = heard-apart f u v e in
       record { code = codeIn f; reading = v; built = b; takenAs = built-taken f (codeIn f) v b meter stamp room m room-fits }
   replied room-fits m u F.Nothing e s = not-taken 17 [] s
 
-  taken-built : fromBus f meter stamp room .said ≡ taken S.Nothing minText → Reply f meter stamp room
-  taken-built = of-taken (λ _. Reply f meter stamp room) f meter stamp room (λ r m u. replied r m u (readingIn (codeIn f) f) refl)
+  taken-built : fromBus f meter stamp room .said ≡ taken S.Nothing minText → TakenReply f meter stamp room
+  taken-built = of-taken (λ _. TakenReply f meter stamp room) f meter stamp room (λ r m u. replied r m u (readingIn (codeIn f) f) refl)
 
 -- ---- the claim
 
-pub claim : Claim
+pub claim : BusClaim
 claim = record {
   taken-is-one-write = taken-one;
   accept-never-says-4 = λ f meter stamp room l e c lane position. accept-not-four c (fromBus f meter stamp room .put) lane position (taken-one f meter stamp room l e .inLayout);

@@ -101,7 +101,7 @@ pub record TakenAs (f : List ℕ) (meter stamp room code : ℕ) (v : ℤ) : Type
   pub putting : fromBus f meter stamp room .put ≡ oneWrite stamp (record { meter = meter; code = code; spare = 0; reading = v })
 
 -- some code and reading of which a frame is the reply
-pub record Reply (f : List ℕ) (meter stamp room : ℕ) : Type 0 where
+pub record TakenReply (f : List ℕ) (meter stamp room : ℕ) : Type 0 where
   pub code : ℕ
   pub reading : ℤ
   pub built : Built f code reading
@@ -117,7 +117,7 @@ pub record OneWriteTo (meter stamp : ℕ) (t : List ℕ) : Type 0 where
 
 -- ---- the claim
 
-pub record Claim : Type 0 where
+pub record BusClaim : Type 0 where
   -- what is taken is a transaction of one write to that meter with that stamp
   pub taken-is-one-write : (f : List ℕ) (meter stamp room : ℕ) → stamp < 2 ^ 64 → fromBus f meter stamp room .said ≡ taken S.Nothing minText
       → OneWriteTo meter stamp (fromBus f meter stamp room .put)
@@ -131,7 +131,7 @@ pub record Claim : Type 0 where
   pub unwanted-is-passed : (unit : ℕ) (r s : List ℕ) → Unwanted unit r → firstReading unit (r ++ s) ≡ firstReading unit s
   -- a reply that is built gives its reading, and nothing else is taken
   pub built-is-taken : (f : List ℕ) (meter stamp room code : ℕ) (v : ℤ) → Built f code v → meter < meters → minText ≤ room → TakenAs f meter stamp room code v
-  pub taken-is-built : (f : List ℕ) (meter stamp room : ℕ) → fromBus f meter stamp room .said ≡ taken S.Nothing minText → Reply f meter stamp room
+  pub taken-is-built : (f : List ℕ) (meter stamp room : ℕ) → fromBus f meter stamp room .said ≡ taken S.Nothing minText → TakenReply f meter stamp room
   -- a frame is unbroken exactly if it is built around the L bytes of a reply
   pub unbroken-is-built : (f : List ℕ) → unbroken f ≡ true → (f ≡ longFrame (bytesIn f)) × (isReply (bytesIn f) ≡ true)
   pub built-is-unbroken : (b : List ℕ) → isReply b ≡ true → (unbroken (longFrame b) ≡ true) × (bytesIn (longFrame b) ≡ b)

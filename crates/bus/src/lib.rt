@@ -45,20 +45,20 @@ const LITRES: u8 = 0x13;
 const KILOWATT_HOURS: u8 = 0x06;
 
 // How many bytes of data a DIF announces.
-pub enum DataLen {
+enum DataLen {
     Bytes(usize),
     Unusable,
 }
 
 // What the search meets: so many bytes to pass, the record that is taken, or its end.
-pub enum Met {
+enum Met {
     Pass(usize),
     Take,
     End,
 }
 
 // What the search finds.
-pub enum Found {
+enum Found {
     Reading(i32),
     Nothing,
 }
@@ -91,7 +91,7 @@ fn sum_of(s: &[u8]) -> u8
 }
 
 // The code of a medium, and 0 of one that is not listed.
-pub fn code_of(medium: u8) -> u8
+fn code_of(medium: u8) -> u8
     ensures { λ r. ⌜ r ≡ codeOf medium ⌝ }
 {
     match medium {
@@ -104,7 +104,7 @@ pub fn code_of(medium: u8) -> u8
 }
 
 // The VIF of a code's unit.
-pub fn unit_of(code: u8) -> u8
+fn unit_of(code: u8) -> u8
     ensures { λ r. ⌜ r ≡ unitOf code ⌝ }
 {
     if code <= 2 {
@@ -114,7 +114,7 @@ pub fn unit_of(code: u8) -> u8
 }
 
 // The length of the data, by the DIF's low four bits.
-pub fn data_len(dif: u8) -> DataLen
+fn data_len(dif: u8) -> DataLen
     ensures { λ r. ⌜ r ≡ dataLen dif ⌝ }
 {
     match dif % 16 {
@@ -130,7 +130,7 @@ pub fn data_len(dif: u8) -> DataLen
 }
 
 // The length of a DIF or VIF with its extension bytes, one more while the last one has its top bit set.
-pub fn field_len(s: &[u8]) -> usize
+fn field_len(s: &[u8]) -> usize
     ensures { λ r. ⌜ r ≡ fieldLen (now (s .entry)) ⌝ }
 {
     let mut i: usize = 0;
@@ -144,7 +144,7 @@ pub fn field_len(s: &[u8]) -> usize
 }
 
 // What the search for a record in this unit meets at the start of s.
-pub fn look(s: &[u8], unit: u8) -> Met
+fn look(s: &[u8], unit: u8) -> Met
     ensures { λ r. ⌜ r ≡ look unit (now (s .entry)) ⌝ }
 {
     if s.len() == 0 {
@@ -185,7 +185,7 @@ fn two_digits(b: u8) -> bool
 }
 
 // The number that the eight digits at the start of s write, or none.
-pub fn reading_of(s: &[u8]) -> Found
+fn reading_of(s: &[u8]) -> Found
     ensures { λ r. ⌜ r ≡ readingOf (now (s .entry)) ⌝ }
 {
     let a = byte_at(s, 0);
@@ -211,7 +211,7 @@ pub fn reading_of(s: &[u8]) -> Found
 }
 
 // The reading of the first record in this unit, searched from the start of s to its end.
-pub fn first_reading(s: &[u8], unit: u8) -> Found
+fn first_reading(s: &[u8], unit: u8) -> Found
     ensures { λ r. ⌜ r ≡ firstReading unit (now (s .entry)) ⌝ }
 {
     let mut at: usize = 0;
@@ -234,7 +234,7 @@ pub fn first_reading(s: &[u8], unit: u8) -> Found
 }
 
 // Whether the bytes are an unbroken frame around a reply.
-pub fn unbroken(f: &[u8]) -> bool
+fn unbroken(f: &[u8]) -> bool
     ensures { λ r. ⌜ r ≡ unbroken (now (f .entry)) ⌝ }
 {
     let n = f.len();
