@@ -3,6 +3,7 @@
 
 use paviluko_model::{Due, Listed, Model, Params, Phase, Rank, Refusal, Store, Table};
 
+use crate::bus::{FILLER, Frame, data_len, sum};
 use crate::device::{Answer, Call, Device, Reference, Twin};
 use crate::raw::Raw;
 use crate::tally::Tally;
@@ -41,6 +42,14 @@ enum Fault {
     NotEntered,
     /// The epoch stays in recovery.
     EpochStays,
+    /// The sum of a frame is not compared.
+    AnySum,
+    /// Of a frame the last record that is wanted is taken.
+    LastRecord,
+    /// A VIF's extension bytes are not followed.
+    NoVife,
+    /// The zero of a write off the bus is left as it was.
+    NoZero,
 }
 
 /// The model with a fault.
@@ -143,6 +152,22 @@ impl Device for Broken {
         answer
     }
 
+    fn hear(&self, frame: &Frame, out: &mut [u8]) -> Answer {
+        let mut misread = frame.clone();
+        match self.fault {
+            Fault::AnySum => put_sum(&mut misread.bytes),
+            Fault::LastRecord => hide_all_but_the_last(&mut misread.bytes),
+            Fault::NoVife => hide_extensions(&mut misread.bytes),
+            _ => {}
+        }
+        let zero = out.get(11).copied();
+        let answer = self.twin.hear(&misread, out);
+        if let (Fault::NoZero, Ok(_), Some(zero)) = (self.fault, &answer, zero) {
+            out[11] = zero;
+        }
+        answer
+    }
+
     fn cut(&mut self) {
         self.twin.cut();
     }
@@ -170,6 +195,67 @@ impl Reference for Broken {
 fn is_taken(model: &Model, call: &Call) -> bool {
     let mut twin = Twin { params: model.params, model: Some(model.clone()) };
     twin.call(call, &mut []).is_ok()
+}
+
+/// The L bytes of what is as long as a frame with a header.
+fn inside(frame: &mut [u8]) -> &mut [u8] {
+    let len = frame.len();
+    if len < 21 { &mut [] } else { &mut frame[4..len - 2] }
+}
+
+/// Puts the sum right.
+fn put_sum(frame: &mut [u8]) {
+    let sum = sum(inside(frame));
+    if let [.., at, _] = frame {
+        *at = sum;
+    }
+}
+
+/// Where the DIF and the VIF of each record stand in the L bytes, by a reader that follows a VIF's extension bytes or not.
+fn records(inside: &[u8], vife: bool) -> Vec<(usize, usize)> {
+    let behind = |at: usize| at + 1 + inside[at..].iter().take_while(|byte| **byte >= 0x80).count();
+    let mut out = Vec::new();
+    let mut at = 15;
+    while at < inside.len() {
+        if inside[at] == FILLER {
+            at += 1;
+            continue;
+        }
+        let Some(len) = data_len(inside[at]) else { break };
+        let vif = behind(at);
+        if vif >= inside.len() {
+            break;
+        }
+        out.push((at, vif));
+        at = len + if vife { behind(vif) } else { vif + 1 };
+    }
+    out
+}
+
+/// Changes the L bytes; a sum that is right stays so, and a wrong one wrong.
+fn reread(frame: &mut [u8], change: impl Fn(&mut [u8])) {
+    let before = sum(inside(frame));
+    change(inside(frame));
+    let more = sum(inside(frame)).wrapping_sub(before);
+    if let [.., at, _] = frame {
+        *at = at.wrapping_add(more);
+    }
+}
+
+/// Makes each wanted record but the last one of another unit.
+fn hide_all_but_the_last(frame: &mut [u8]) {
+    reread(frame, |inside| {
+        let mut wanted = records(inside, true);
+        let unit = if matches!(inside.get(10), Some(0x07 | 0x16 | 0x06 | 0x15)) { 0x13 } else { 0x06 };
+        wanted.retain(|&(dif, vif)| (inside[dif], inside[vif]) == (0x0C, unit));
+        wanted.pop();
+        wanted.iter().for_each(|&(_, vif)| inside[vif] ^= 0x20);
+    });
+}
+
+/// Makes each VIF one without extension bytes.
+fn hide_extensions(frame: &mut [u8]) {
+    reread(frame, |inside| records(inside, false).iter().for_each(|&(_, vif)| inside[vif] &= 0x7F));
 }
 
 /// Runs histories until one fails.
@@ -210,13 +296,17 @@ fn a_fault_on_one_side_is_caught() {
         Fault::Uncovered,
         Fault::NotEntered,
         Fault::EpochStays,
+        Fault::AnySum,
+        Fault::LastRecord,
+        Fault::NoVife,
+        Fault::NoZero,
     ] {
         caught(fault);
     }
 }
 
 #[test]
-fn a_fault_on_both_sides_is_caught_by_the_book_and_the_card() {
+fn a_fault_on_both_sides_is_caught_by_what_is_known() {
     caught_alone(Fault::Order, "is not as in the book");
     caught_alone(Fault::EmptyTable, "is not as in the book");
     caught_alone(Fault::NoCard, "a card that kept faith");
@@ -228,6 +318,10 @@ fn a_fault_on_both_sides_is_caught_by_the_book_and_the_card() {
     caught_alone(Fault::OneCheckpoint, "a recovery of");
     caught_alone(Fault::VisibleLeft, "a recovery of");
     caught_alone(Fault::EpochStays, "a recovery of");
+    caught_alone(Fault::AnySum, "(a byte changed) says");
+    caught_alone(Fault::LastRecord, "(the wanted record twice) says");
+    caught_alone(Fault::NoVife, "extended) says");
+    caught_alone(Fault::NoZero, "Accept says 4 to what came off the bus");
 }
 
 /// The right model against itself: nothing fails, and everything comes up.

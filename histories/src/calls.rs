@@ -80,12 +80,13 @@ fn low_position(rng: &mut Rng, top: Option<u64>) -> u64 {
     top.map_or(0, |top| top - rng.below(3).min(top))
 }
 
-/// Mostly of a good transaction, at a position above those used.
+/// Mostly of a good transaction, at a position above those used; of the one off the bus where there is one.
 pub fn accept(host: &mut Host, model: &Model) -> Call {
-    let Host { rng, params, .. } = host;
+    let Host { rng, params, off_bus, .. } = host;
     let bad = if rng.permille(850) { 7 } else { rng.below(7) };
-    let transaction = match bad {
-        0 | 1 => no_transaction(rng, params),
+    let transaction = match (bad, off_bus) {
+        (0 | 1, _) => no_transaction(rng, params),
+        (_, Some(off_bus)) => off_bus.clone(),
         _ => a_transaction(rng, params).bytes(),
     };
     let lane = match bad {

@@ -3,8 +3,9 @@
 use std::fmt;
 use std::rc::Rc;
 
-use paviluko_model::{Model, Params, Refusal, Taken, Vault};
+use paviluko_model::{Model, Params, Refusal, Taken, Vault, from_bus};
 
+use crate::bus::Frame;
 use crate::raw::Raw;
 
 /// A call's answer.
@@ -23,11 +24,18 @@ pub enum Call {
     Recover { checkpoint: Rc<[u8]>, log: Rc<[u8]>, room: usize },
 }
 
-/// The operations' names, in the order of `Call::operation`.
-pub const OPERATIONS: [&str; 8] = ["Load", "Accept", "Seal", "Commit", "Point", "Checkpoint", "Truncate", "Recover"];
+/// The functions' names: the operations in the order of `Call::operation`, and what takes no state behind them.
+pub const FUNCTIONS: [&str; 9] =
+    ["Load", "Accept", "Seal", "Commit", "Point", "Checkpoint", "Truncate", "Recover", "from_bus"];
 
-/// The numbers that each operation can return.
-pub const NUMBERS: [&[u8]; 8] = [
+/// The place of `from_bus` among them.
+pub const FROM_BUS: usize = 8;
+
+/// The greatest number.
+pub const LAST: u8 = 17;
+
+/// The numbers that each function can return.
+pub const NUMBERS: [&[u8]; FUNCTIONS.len()] = [
     &[2, 3],
     &[1, 4, 5, 6, 7, 8],
     &[1, 3],
@@ -36,6 +44,7 @@ pub const NUMBERS: [&[u8]; 8] = [
     &[1, 3, 8],
     &[1, 14],
     &[1, 3, 8, 9, 10, 11, 12, 13],
+    &[3, 4, 16, 17],
 ];
 
 impl Call {
@@ -95,6 +104,9 @@ pub trait Device {
     /// Calls an operation. Without a state only Load is called.
     fn call(&mut self, call: &Call, out: &mut [u8]) -> Answer;
 
+    /// `from_bus`, which takes no state: a transaction of a frame, whatever the state is, and where there is none.
+    fn hear(&self, frame: &Frame, out: &mut [u8]) -> Answer;
+
     /// Loses the state.
     fn cut(&mut self);
 
@@ -143,6 +155,11 @@ impl Device for Twin {
             (Call::Truncate { position }, Some(model)) => model.truncate(*position),
             (Call::Recover { checkpoint, log, .. }, Some(model)) => model.recover(checkpoint, log, out),
         }
+    }
+
+    fn hear(&self, frame: &Frame, out: &mut [u8]) -> Answer {
+        let len = from_bus(&self.params, &frame.bytes, frame.meter, frame.stamp, out)?;
+        Ok(Taken { store: None, len })
     }
 
     fn cut(&mut self) {

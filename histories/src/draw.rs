@@ -1,7 +1,8 @@
-//! Draws what comes next, by the style of the history and the state: a cut, a handed state, or which call.
+//! Draws what comes next, by the style of the history and the state: a cut, a handed state, a frame, or which call.
 
 use paviluko_model::{Due, Model, Phase};
 
+use crate::bus::{self, Heard};
 use crate::calls::{accept, checkpoint, commit, go_on, lengthen, load, point, seal, truncate};
 use crate::cards;
 use crate::device::Call;
@@ -15,6 +16,8 @@ pub enum Event {
     Cut { done: bool },
     /// A handed state.
     Hand(Box<Raw>),
+    /// A frame off the bus.
+    Bus(Box<Heard>),
     /// A call, which `call` draws once the named store is done.
     Call,
 }
@@ -59,6 +62,9 @@ pub fn event(host: &mut Host, model: Option<&Model>) -> Event {
     };
     if host.rng.permille(handed) {
         return Event::Hand(Box::new(states::odd(host, model)));
+    }
+    if !host.filling() && host.rng.permille(40) {
+        return Event::Bus(Box::new(bus::heard(&mut host.rng, &host.params)));
     }
     Event::Call
 }

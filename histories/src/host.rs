@@ -57,6 +57,8 @@ pub struct Host {
     pub files: Vec<Rc<[u8]>>,
     /// Cards as they were once.
     pub snapshots: Vec<Card>,
+    /// The transaction that came off the bus last, until it is accepted.
+    pub off_bus: Option<Vec<u8>>,
     /// A long log was built, and is to be recovered.
     pub filled: bool,
 }
@@ -82,6 +84,7 @@ impl Host {
             records: Vec::new(),
             files: Vec::new(),
             snapshots: Vec::new(),
+            off_bus: None,
             filled: false,
         };
         if style == Style::Aged {

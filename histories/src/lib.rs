@@ -1,14 +1,16 @@
 //! Random whole histories on a device and the model side by side.
 //!
-//! A history is a list of calls, cuts and handed states, drawn from a seed. After every call the two answers, the lent
-//! buffer and the states are compared, and what the scope says about whole histories is asserted: the table after an
-//! accepted Recover is the book's, and a card that kept faith is taken unless a counter is spent.
+//! A history is a list of calls, cuts, handed states and frames off the bus, drawn from a seed. After every call the two
+//! answers, the lent buffer and the states are compared, and what the scope says about whole histories is asserted: the
+//! table after an accepted Recover is the book's, and a card that kept faith is taken unless a counter is spent. What is
+//! known of a frame is asserted too, and Accept knows the layout of what came out of one.
 //!
-//! A module uses only those named before it: `rng`, `raw`, `values`, `device`, `tally`, `host`, `bytes`, `cards`,
+//! A module uses only those named before it: `rng`, `raw`, `values`, `bus`, `device`, `tally`, `host`, `bytes`, `cards`,
 //! `calls`, `states`, `draw`, `world`.
 
 #[cfg(test)]
 mod broken;
+mod bus;
 mod bytes;
 mod calls;
 mod cards;
@@ -22,6 +24,7 @@ mod tally;
 mod values;
 mod world;
 
+pub use bus::Frame;
 pub use device::{Answer, Call, Device, Reference, Twin};
 pub use raw::Raw;
 pub use tally::Tally;

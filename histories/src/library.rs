@@ -1,7 +1,7 @@
 //! The library as a device.
 
 use paviluko_histories::raw::{RawDue, due_of, phase_of};
-use paviluko_histories::{Answer, Call, Device, Raw};
+use paviluko_histories::{Answer, Call, Device, Frame, Raw};
 use paviluko_host::{Collector, LANES, POINTS, RECORDS, ffi};
 use paviluko_model::{Due, Entry, Model, Refusal, Store, Taken, Vault};
 
@@ -178,6 +178,10 @@ impl Device for Library {
             (Call::Truncate { position }, Some(collector)) => collector.truncate(*position),
             (Call::Recover { checkpoint, log, .. }, Some(collector)) => collector.recover(checkpoint, log, out),
         })
+    }
+
+    fn hear(&self, frame: &Frame, out: &mut [u8]) -> Answer {
+        answer(paviluko_host::from_bus(&frame.bytes, frame.meter, frame.stamp, out))
     }
 
     fn cut(&mut self) {

@@ -2,7 +2,8 @@
 
 use std::fmt::Write;
 
-use crate::device::{Answer, NUMBERS, OPERATIONS};
+use crate::bus::{KINDS, Said};
+use crate::device::{Answer, FROM_BUS, FUNCTIONS, LAST, NUMBERS};
 
 /// Counts over all histories.
 #[derive(Clone, Debug, Default)]
@@ -12,10 +13,10 @@ pub struct Tally {
     pub cuts: u64,
     pub handed: u64,
     pub calls: u64,
-    /// By operation.
-    pub taken: [u64; 8],
-    /// By operation and number.
-    pub refused: [[u64; 16]; 8],
+    /// By function.
+    pub taken: [u64; FUNCTIONS.len()],
+    /// By function and number.
+    pub refused: [[u64; LAST as usize + 1]; FUNCTIONS.len()],
     /// Whole recoveries of 15 and of 24 stores.
     pub recoveries: [u64; 2],
     /// Accepted Recover calls whose table was the book's: all, and those where it was not empty.
@@ -30,22 +31,46 @@ pub struct Tally {
     pub other_cards: [u64; 2],
     /// Cuts by the kind of the store that was due, and by whether the store named last was done.
     pub cut_at: [[u64; 2]; 13],
+    /// Frames whose own bytes decided, by kind.
+    pub frames: [u64; KINDS.len()],
+    /// Readings off the bus: by code, and those below 0.
+    pub codes: [u64; 4],
+    pub negative: u64,
+    /// Transactions off the bus that Accept took.
+    pub off_bus: u64,
 }
 
 impl Tally {
     /// Counts a call.
-    pub fn count(&mut self, operation: usize, answer: &Answer) {
+    pub fn count(&mut self, function: usize, answer: &Answer) {
         self.calls += 1;
         match answer {
-            Ok(_) => self.taken[operation] += 1,
-            Err(refusal) => self.refused[operation][usize::from(refusal.number & 15)] += 1,
+            Ok(_) => self.taken[function] += 1,
+            Err(refusal) => self.refused[function][usize::from(refusal.number.min(LAST))] += 1,
         }
     }
 
-    /// What never came up: operations never taken, numbers never returned, halves of the claim never tried.
+    /// Counts a call of `from_bus`.
+    pub fn hear(&mut self, kind: usize, answer: &Answer, said: Said) {
+        self.count(FROM_BUS, answer);
+        match said {
+            Err(3 | 4) => return,
+            Err(_) => {}
+            Ok((code, reading)) => {
+                if let Some(count) = self.codes.get_mut(usize::from(code).wrapping_sub(1)) {
+                    *count += 1;
+                }
+                self.negative += u64::from(reading < 0);
+            }
+        }
+        self.frames[kind] += 1;
+    }
+
+    /// What never came up: functions never taken, numbers never returned, halves of the claim never tried, kinds of frames
+    /// and readings off the bus never seen.
     pub fn missing(&self) -> Vec<String> {
         let mut out = Vec::new();
-        for (i, name) in OPERATIONS.iter().enumerate() {
+        for (i, name) in FUNCTIONS.iter().enumerate() {
             if self.taken[i] == 0 {
                 out.push(format!("{name} was never taken"));
             }
@@ -62,7 +87,15 @@ impl Tally {
             (self.other_cards[0], "no other card was taken"),
             (self.recoveries[0], "no recovery of 15 stores"),
             (self.recoveries[1], "no recovery of 24 stores"),
+            (self.negative, "no reading off the bus was below 0"),
+            (self.off_bus, "no transaction off the bus was accepted"),
         ];
+        for (code, _) in (1..).zip(self.codes).filter(|(_, count)| *count == 0) {
+            out.push(format!("no reading off the bus had code {code}"));
+        }
+        for (kind, _) in KINDS.iter().zip(self.frames).filter(|(_, count)| *count == 0) {
+            out.push(format!("no frame off the bus: {}", kind.name));
+        }
         for (kind, cuts) in self.cut_at.iter().enumerate() {
             for (done, count) in cuts.iter().enumerate() {
                 if *count == 0 {
@@ -84,15 +117,15 @@ impl Tally {
             self.histories, self.events, self.calls, self.cuts, self.handed
         );
         let _ = write!(out, "{:<11}{:>9}", "", "taken");
-        for number in 1..16 {
+        for number in 1..=LAST {
             let _ = write!(out, "{number:>8}");
         }
         out.push('\n');
-        for (i, name) in OPERATIONS.iter().enumerate() {
+        for (i, name) in FUNCTIONS.iter().enumerate() {
             let _ = write!(out, "{name:<11}{:>9}", self.taken[i]);
-            for number in 1..16 {
-                let seen = self.refused[i][number];
-                if seen > 0 || NUMBERS[i].contains(&(number as u8)) {
+            for number in 1..=LAST {
+                let seen = self.refused[i][usize::from(number)];
+                if seen > 0 || NUMBERS[i].contains(&number) {
                     let _ = write!(out, "{seen:>8}");
                 } else {
                     let _ = write!(out, "{:>8}", "");
@@ -116,6 +149,16 @@ impl Tally {
             self.other_cards[0],
             self.other_cards[1],
             self.cut_at.iter().flatten().min().unwrap_or(&0)
+        );
+        let [cold, hot, heat, cooling] = self.codes;
+        let _ = writeln!(
+            out,
+            "readings off the bus: {cold}, {hot}, {heat} and {cooling} of codes 1 to 4, {} below 0, {} accepted; \
+             each of {} kinds of frames at least {} times",
+            self.negative,
+            self.off_bus,
+            KINDS.len(),
+            self.frames.iter().min().unwrap_or(&0)
         );
         out
     }

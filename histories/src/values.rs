@@ -10,7 +10,7 @@ pub fn lane(rng: &mut Rng, params: &Params) -> u8 {
 }
 
 /// A meter, so many times in a thousand one of the first six.
-fn a_meter(rng: &mut Rng, params: &Params, times: u64) -> usize {
+pub fn a_meter(rng: &mut Rng, params: &Params, times: u64) -> usize {
     if rng.permille(times) { rng.index(6) } else { rng.index(params.meters) }
 }
 
@@ -18,14 +18,19 @@ fn a_write(rng: &mut Rng, meter: usize) -> Write {
     Write { meter, code: 1 + rng.below(4) as u8, reading: rng.any() as u32 as i32 }
 }
 
-/// A transaction in its layout: few stamps and meters, so that writes meet.
-pub fn a_transaction(rng: &mut Rng, params: &Params) -> Transaction {
-    let stamp = match rng.below(20) {
+/// A stamp, mostly one of few.
+pub fn a_stamp(rng: &mut Rng) -> u64 {
+    match rng.below(20) {
         0 => 0,
         1 => u64::MAX - rng.below(2),
         2 => rng.any(),
         _ => 100 + rng.below(4),
-    };
+    }
+}
+
+/// A transaction in its layout: few stamps and meters, so that writes meet.
+pub fn a_transaction(rng: &mut Rng, params: &Params) -> Transaction {
+    let stamp = a_stamp(rng);
     let count = match rng.below(10) {
         0 => params.writes,
         1 | 2 => 1 + rng.index(params.writes),

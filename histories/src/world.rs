@@ -5,8 +5,9 @@ use std::rc::Rc;
 
 use paviluko_model::card::Line;
 use paviluko_model::table::number_at;
-use paviluko_model::{Phase, Store, Table, Vault, sealed};
+use paviluko_model::{Phase, Store, Table, Taken, Vault, sealed};
 
+use crate::bus::{Heard, KINDS, Said};
 use crate::device::{Answer, Call, Device, Reference};
 use crate::draw::{self, Drawn, Event};
 use crate::host::{Host, Style};
@@ -108,6 +109,7 @@ impl<D: Device, R: Reference> World<'_, D, R> {
                 self.reference.hand(&raw);
                 self.same_states("a handed state")
             }
+            Event::Bus(heard) => self.hear(&heard),
             Event::Call => {
                 // A named store is done before the next call.
                 self.carry_out()?;
@@ -140,6 +142,50 @@ impl<D: Device, R: Reference> World<'_, D, R> {
         Ok(())
     }
 
+    /// Hands both a frame, compares, and keeps what came out of it.
+    fn hear(&mut self, heard: &Heard) -> Result<(), String> {
+        let Heard { frame, kind, known } = heard;
+        self.lend(frame.room);
+        let answer = self.device.hear(frame, &mut self.out);
+        let expected = self.reference.hear(frame, &mut self.expected);
+        let told = |what: &str| format!("{what}\ncall: {frame}\ndevice: {answer:?}\nmodel: {expected:?}");
+        self.same_answers(&answer, &expected).map_err(|what| told(&what))?;
+        let said: Said = match &answer {
+            Ok(Taken { store: None, len: 16 }) => Ok((self.out[10], number_at(&self.out, 12, 4) as u32 as i32)),
+            Ok(_) => return Err(told("from_bus does not put out a transaction of one write")),
+            Err(refusal) => Err(refusal.number),
+        };
+        self.tally.hear(*kind, &answer, said);
+        if known.is_some_and(|known| said != known) {
+            return Err(told(&format!("a frame ({}) says {said:?}, and should say {known:?}", KINDS[*kind].name)));
+        }
+        if said.is_ok() {
+            self.host.off_bus = Some(self.out[..16].to_vec());
+        }
+        Ok(())
+    }
+
+    /// Lends both so much room, filled with the same byte.
+    fn lend(&mut self, room: usize) {
+        let fill = self.host.rng.any() as u8;
+        for buffer in [&mut self.out, &mut self.expected] {
+            buffer.clear();
+            buffer.resize(room, fill);
+        }
+    }
+
+    /// Compares two answers, and what was lent.
+    fn same_answers(&self, answer: &Answer, expected: &Answer) -> Result<(), String> {
+        if answer != expected {
+            return Err("the answers differ".to_string());
+        }
+        if let Some(at) = (0..self.out.len()).find(|&i| self.out[i] != self.expected[i]) {
+            let (a, b) = (self.out[at], self.expected[at]);
+            return Err(format!("the outputs differ at byte {at}: {a} and {b}"));
+        }
+        Ok(())
+    }
+
     /// Calls both, compares, and keeps the host's side.
     fn call(&mut self, drawn: &Drawn) -> Result<(), String> {
         let call = &drawn.call;
@@ -150,22 +196,12 @@ impl<D: Device, R: Reference> World<'_, D, R> {
             return Err(format!("the state's numbers are not the vault's: {:?} {:?}", model.vault, self.host.vault));
         }
         let was_cold = self.reference.model().is_some_and(|model| model.phase == Phase::Cold);
-        let fill = self.host.rng.any() as u8;
-        for buffer in [&mut self.out, &mut self.expected] {
-            buffer.clear();
-            buffer.resize(call.room(), fill);
-        }
+        self.lend(call.room());
         let answer = self.device.call(call, &mut self.out);
         let expected = self.reference.call(call, &mut self.expected);
         self.tally.count(call.operation(), &expected);
         let told = |what: &str| format!("{what}\ncall: {call}\ndevice: {answer:?}\nmodel: {expected:?}");
-        if answer != expected {
-            return Err(told("the answers differ"));
-        }
-        if let Some(at) = (0..self.out.len()).find(|&i| self.out[i] != self.expected[i]) {
-            let (a, b) = (self.out[at], self.expected[at]);
-            return Err(told(&format!("the outputs differ at byte {at}: {a} and {b}")));
-        }
+        self.same_answers(&answer, &expected).map_err(|what| told(&what))?;
         if answer.is_err() && !self.device.unchanged() {
             return Err(told("the refused call changed the state"));
         }
@@ -204,6 +240,16 @@ impl<D: Device, R: Reference> World<'_, D, R> {
         }
         if bound && was_cold && !drawn.faithful && matches!(call, Call::Recover { .. }) {
             self.tally.other_cards[usize::from(answer.is_err())] += 1;
+        }
+        if matches!(call, Call::Accept { transaction, .. } if host.off_bus.as_ref() == Some(transaction)) {
+            match answer {
+                Err(refusal) if refusal.number == 4 => return Err("Accept says 4 to what came off the bus".to_string()),
+                Err(_) => {}
+                Ok(_) => {
+                    self.tally.off_bus += 1;
+                    host.off_bus = None;
+                }
+            }
         }
         let Ok(taken) = answer else { return Ok(()) };
         let Some(model) = self.reference.model() else { return Err("a taken call left no state".to_string()) };
