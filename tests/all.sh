@@ -45,6 +45,7 @@ esac
 # What tests an archive runs beside the making of the next; what copies target/rlib begins when no rt runs here any more.
 sh tools/lib.sh
 beside histories
+beside bus
 beside program
 beside crash
 beside faults
@@ -59,7 +60,7 @@ beside install
 sh tests/axioms.sh paviluko test_sealed test_cipher
 
 failed=
-for test in cipher sealed boundary firmware histories program crash faults install; do
+for test in cipher sealed boundary firmware histories bus program crash faults install; do
     shown "$test" || failed="$failed $test"
 done
 if [ -n "$failed" ]; then

@@ -160,7 +160,7 @@ fn frame(rng: &mut Rng, kind: &Kind) -> (Vec<u8>, Option<Said>) {
 }
 
 /// 68 L L 68, the bytes, at most 255, their sum, 16.
-fn framed(inside: &[u8]) -> Vec<u8> {
+pub fn framed(inside: &[u8]) -> Vec<u8> {
     assert!(inside.len() <= 255);
     let l = inside.len() as u8;
     [&[0x68, l, l, 0x68], inside, &[sum(inside), 0x16]].concat()

@@ -642,91 +642,21 @@ fn any_bytes() {
 
 // ---- published frames
 
+/// Replies and commands as they were published: a line each, of the frame, the number, where it is from, and why.
+const PUBLISHED: &str = include_str!("../../../tests/bus/published.txt");
+
 /// Bytes from their text.
 fn hex(text: &str) -> Vec<u8> {
     text.split_whitespace().filter_map(|byte| u8::from_str_radix(byte, 16).ok()).collect()
 }
 
-/// Replies that hold together: lengths and sum are right.
+/// Long frames hold together: lengths and sum are right.
 #[test]
-fn published_replies() {
-    let replies = [
-        // "The M-Bus: A Documentation", a reply of variable structure: water, but 24 bits binary (03 13), a greatest
-        // flow (DA 02 3B), an energy (8B 60 04).
-        (
-            "68 1F 1F 68 08 02 72 78 56 34 12 24 40 01 07 55 00 00 00 03 13 15 31 00 DA 02 3B 13 01 8B 60 04 37 18 02 \
-             18 16",
-            Err(17),
-        ),
-        // "The M-Bus: A Documentation", a reply of fixed structure: CI 73.
-        ("68 13 13 68 08 05 73 78 56 34 12 0A 00 E9 7E 01 00 00 00 35 01 00 00 3C 16", Err(16)),
-        // Test data of libmbus and pyMeterBus, a heat meter (SVM F22): energy binary in tens of kWh (04 07), volume
-        // (0C 15), and a last DIF of 0F.
-        (
-            "68 3D 3D 68 08 01 72 00 51 20 02 82 4D 02 04 00 88 00 00 04 07 00 00 00 00 0C 15 03 00 00 00 0B 2E 00 00 \
-             00 0B 3B 00 00 00 0A 5A 88 12 0A 5E 16 05 0B 61 23 77 00 02 6C 8C 11 02 27 37 0D 0F 60 00 67 16",
-            Err(17),
-        ),
-        // Test data of jMBus, temperature and humidity (ELV): medium 00. Its third record has a VIF of FC.
-        (
-            "68 4D 4D 68 08 01 72 01 00 00 00 96 15 01 00 18 00 00 00 0C 78 56 00 00 00 01 FD 1B 00 02 FC 03 48 52 25 \
-             74 44 0D 22 FC 03 48 52 25 74 F1 0C 12 FC 03 48 52 25 74 63 11 02 65 B4 09 22 65 86 09 12 65 B7 09 01 72 \
-             00 72 65 00 00 B2 01 65 00 00 1F B3 16",
-            Err(17),
-        ),
-        // Test data of jMBus, a heat meter (LSE): energy in hundreds of Wh (0C 05); litres (0C 13) are no heat; a DIF
-        // of 0D ends it.
-        (
-            "68 6A 6A 68 08 01 72 43 53 93 07 65 32 10 04 CA 00 00 00 0C 05 14 00 00 00 0C 13 13 20 00 00 0B 22 01 24 \
-             03 04 6D 12 0B D3 12 32 6C 00 00 0C 78 43 53 93 07 06 FD 0C F2 03 01 00 F6 01 0D FD 0B 05 31 32 4D 46 57 \
-             01 FD 0E 00 4C 05 14 00 00 00 4C 13 13 20 00 00 42 6C BF 1C 0F 37 FD 17 00 00 00 00 00 00 00 00 02 7A 25 \
-             00 02 78 25 00 3A 16",
-            Err(17),
-        ),
-        // Test data of libmbus, cold water (Itron BM +m), medium 16: litres, but binary (04 13); a last DIF of 0F. Of
-        // its manufacturer's bytes, 00 00 75 13 or 00 01 75 13, the sum tells the second.
-        (
-            "68 3C 3C 68 08 08 72 78 03 49 11 77 04 0E 16 0A 00 00 00 0C 78 78 03 49 11 04 13 31 D4 00 00 42 6C 00 00 \
-             44 13 00 00 00 00 04 6D 0B 0B CD 13 02 27 00 00 09 FD 0E 02 09 FD 0F 06 0F 00 01 75 13 D3 16",
-            Err(17),
-        ),
-        // Test data of libmbus, water (GWF MTKcoder): eight digits, but cubic metres (0C 16). Of its address, 00 or 01,
-        // the sum tells the second.
-        ("68 1B 1B 68 08 01 72 07 20 18 00 E6 1E 35 07 4C 00 00 00 0C 78 07 20 18 00 0C 16 69 02 00 00 96 16", Err(17)),
-        // OMS specification, volume 2, annex N, a gas meter on the wired bus (ELS): medium 03.
-        (
-            "68 20 20 68 08 FD 72 78 56 34 12 93 15 33 03 2A 00 00 00 0C 14 27 04 85 02 04 6D 32 37 1F 15 02 FD 17 00 \
-             00 89 16",
-            Err(17),
-        ),
-    ];
-    for (text, expected) in replies {
+fn published() {
+    for line in PUBLISHED.lines().filter(|line| !line.starts_with('#')) {
+        let [text, number, _from, _why] = line.split(" | ").collect::<Vec<_>>()[..] else { panic!("{line}") };
         let frame = hex(text);
-        assert!(unframed(&frame).is_some(), "{text}");
-        assert_eq!(said(&frame), expected, "{text}");
-    }
-}
-
-/// What goes the other way, or is no long frame, after "The M-Bus: A Documentation".
-#[test]
-fn published_commands() {
-    let commands = [
-        // The single character, and short frames: SND_NKE, REQ_UD2.
-        "E5",
-        "10 40 01 41 16",
-        "10 5B FE 59 16",
-        // A new address, the whole identification, a baud rate.
-        "68 06 06 68 53 FE 51 01 7A 08 25 16",
-        "68 0D 0D 68 53 FE 51 07 79 04 03 02 01 24 40 01 04 95 16",
-        "68 03 03 68 53 FE BD 0E 16",
-        // Which records to send.
-        "68 07 07 68 53 07 51 08 13 08 5A 28 16",
-        "68 06 06 68 53 01 51 C8 3F 7E 2A 16",
-        "68 04 04 68 53 03 51 7F 26 16",
-        // Identification and energy set to 107 kWh (0C 06). L is 15, but C is 53.
-        "68 0F 0F 68 53 FE 51 0C 79 78 56 34 12 0C 06 07 01 00 00 55 16",
-    ];
-    for text in commands {
-        assert_eq!(said(&hex(text)), Err(16), "{text}");
+        assert!(frame[0] != 0x68 || unframed(&frame).is_some(), "{line}");
+        assert_eq!(said(&frame).map_err(|said| said.to_string()), Err(number.to_string()), "{line}");
     }
 }
