@@ -1,6 +1,6 @@
 /* How much stack a call takes: it is made on a thread whose stack was painted before, and what is no longer painted behind
-   it was used.  The state that is handed over and the reply stand on that stack too, some 8 KB each; the second column is
-   without them. */
+   it was used.  The state that is handed over and the reply stand on that stack too, some 8 KB each, but for from_bus; the
+   second column is without them. */
 
 #define _GNU_SOURCE
 
@@ -18,6 +18,9 @@ static paviluko_state state, next;
 static paviluko_said said;
 static uint8_t out[PAVILUKO_CHECKPOINT_LEN], record[PAVILUKO_RECORD_MAX], transaction[PAVILUKO_TRANSACTION_MAX];
 static uint8_t card_log[RECORDS * PAVILUKO_RECORD_MAX], card_file[PAVILUKO_CHECKPOINT_LEN];
+/* A frame with a record before the wanted one. */
+static const uint8_t frame[] = { 0x68, 0x1b, 0x1b, 0x68, 0x08, 0x05, 0x72, 0x78, 0x56, 0x34, 0x12, 0x24, 0x40, 0x01, 0x07, 0x55, 0x00,
+                                 0x00, 0x00, 0x04, 0x6d, 0x12, 0x0b, 0xd3, 0x12, 0x0c, 0x13, 0x78, 0x56, 0x34, 0x12, 0xfa, 0x16 };
 static size_t log_len, file_len;
 static uint64_t position;
 
@@ -49,6 +52,26 @@ CALL(point, paviluko_point(state, position))
 CALL(checkpoint, paviluko_checkpoint(state, out, sizeof out))
 CALL(truncate_at, paviluko_truncate(state, position))
 CALL(recover, paviluko_recover(state, card_file, file_len, card_log, log_len, out, sizeof out))
+
+/* from_bus has no state, and takes less than a thread does to start and to end: it is called below all that. */
+static void from_bus(void)
+{
+    said = paviluko_from_bus(frame, sizeof frame, 7, 1, out, sizeof out);
+}
+
+static void no_call(void)
+{
+}
+
+static void (*volatile below)(void);
+
+static void *call_below(void *unused)
+{
+    volatile uint8_t above[1 << 14];
+    above[0] = 0;
+    below();
+    return above[0] ? NULL : unused;
+}
 
 /* The bytes of stack that a thread takes. */
 static size_t used(void *(*work)(void *))
@@ -87,6 +110,19 @@ static void line(const char *name, size_t bytes)
 {
     printf("%-34s %6.1f KB %6.1f KB\n", name, (double)bytes / 1024,
            ((double)bytes - sizeof(paviluko_state) - sizeof(paviluko_reply)) / 1024);
+}
+
+static void line_from_bus(void)
+{
+    below = no_call;
+    size_t without = used(call_below);
+    below = from_bus;
+    double kb = (double)(used(call_below) - without) / 1024;
+    if (said.number != PAVILUKO_TAKEN) {
+        fprintf(stderr, "stack: from_bus was turned down with %d\n", said.number);
+        exit(1);
+    }
+    printf("%-34s %6.1f KB %6.1f KB\n", "from_bus", kb, kb);
 }
 
 static size_t most(size_t a, size_t b)
@@ -149,5 +185,6 @@ int main(void)
     line("recover, reading a card", step(recover));
     line("recover, the other calls", go_on(&file));
     line("recover, a file", file);
+    line_from_bus();
     return 0;
 }
