@@ -51,10 +51,10 @@
  * number is then given up, and the transaction is accepted anew. (Were the record one that is visible, recover would say
  * 11 or 13. In commit, 10 and 11 mean that another record was handed over than the one that is next in its lane.)
  *
- * WHAT IS PROVED. Each function below returns, for every argument, what the definitions in crates/protocol/specs say (the
- * promises stand in crates/paviluko/src/lib.rt); and of any run of these calls with cuts, whatever card is handed over,
- * that the table of an accepted recovery is the latest reading of every meter, and that a card that kept faith is
- * accepted (crates/boundary/specs/Claim.antt; docs/ARCHITECTURE.md has it in words).
+ * WHAT IS PROVED. Each function below returns, for every argument, what the definitions in crates/protocol/specs and
+ * crates/bus/specs say (the promises stand in crates/paviluko/src/lib.rt); and of any run of these calls with cuts,
+ * whatever card is handed over, that the table of an accepted recovery is the latest reading of every meter, and that a
+ * card that kept faith is accepted (crates/boundary/specs/Claim.antt; docs/ARCHITECTURE.md has it in words).
  *
  * BUFFERS MUST NOT CHANGE DURING A CALL. What a call is lent, nobody else writes until it returns: no other thread, no
  * interrupt, no DMA, no card that is mapped into memory. A call reads its input more than once, and bytes that change
@@ -67,7 +67,7 @@
  * MEMORY AND THREADS. There is no heap, no global and no hidden state: the functions are re-entrant, and no pointer
  * outlives its call. State and reply are some 8 KB each and are passed by value, so a call needs stack. Measured
  * (bench/stack.c), state and reply among it: load 27 KB, accept 31, truncate 32, point 40, commit 47, seal 52, checkpoint
- * 72, recover 105, the questions at the end 15. PAVILUKO_STACK leaves room beyond the deepest of them. The paviluko_do_
+ * 72, recover 105, the questions at the end 15; from_bus, which has neither, less than 1. PAVILUKO_STACK leaves room beyond the deepest of them. The paviluko_do_
  * functions at the end of this file take a pointer to the state instead, and write the next state back.
  *
  * THE KEY. A state holds the key; paviluko_clear wipes one that is no longer needed. The stack that a call used may hold

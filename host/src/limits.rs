@@ -15,7 +15,7 @@ pub const KEY_LEN: usize = 16;
 /// Bytes of the longest transaction.
 pub const TRANSACTION_LEN: usize = 8 + 8 * WRITES;
 /// Bytes of a transaction of one write.
-pub const ONE_WRITE_LEN: usize = 16;
+pub const ONE_WRITE_LEN: usize = 8 + 8;
 /// Bytes of the longest record.
 pub const RECORD_LEN: usize = TRANSACTION_LEN + 40;
 /// Bytes of a checkpoint file.
