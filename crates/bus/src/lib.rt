@@ -4,16 +4,16 @@
 // first, whole; then the records are searched for the one that is taken, a step a record, and never behind the L bytes.
 // Nothing public has a `requires`.
 ghost use mathlib.Core.Path.{_≡_};
+ghost use mathlib.Core.Bool.{_&&_};
 ghost use Prim.Native.Nat.{_/_, _%_};
+ghost use lib.Dec.{leb};
 ghost use lib.ListN.{length};
+ghost use Rattle.octets.specs.Lists.{putOver};
 ghost use Rattle.bus.specs.Frame.{sum, unbroken};
 ghost use Rattle.bus.specs.Medium.{codeOf, unitOf};
 ghost use Rattle.bus.specs.Digits.{readingOf};
 ghost use Rattle.bus.specs.Records.{dataLen, fieldLen, look, firstReading};
-ghost use mathlib.Core.Bool.{_&&_};
-ghost use lib.Dec.{leb};
 ghost use Rattle.bus.specs.Answer.{saidBy, fromBus};
-ghost use Rattle.octets.specs.Lists.{putOver};
 use octets::byte_at;
 use transaction::METERS;
 use transaction::MIN_TEXT;
@@ -88,6 +88,32 @@ fn sum_of(s: &[u8]) -> u8
         i += 1;
     }
     total as u8
+}
+
+// Whether the bytes are an unbroken frame around a reply.
+fn unbroken(f: &[u8]) -> bool
+    ensures { λ r. ⌜ r ≡ unbroken (now (f .entry)) ⌝ }
+{
+    let n = f.len();
+    if n < OPEN_LEN + LEAST_L + CLOSE_LEN {
+        return false;
+    }
+    let len = f[1] as usize;
+    if n != OPEN_LEN + len + CLOSE_LEN {
+        return false;
+    }
+    let end = OPEN_LEN + len;
+    let sum = sum_of(&f[OPEN_LEN..end]);
+    let last = end + 1;
+    let c = f[4];
+    let reply = (c == 0x08) | (c == 0x18) | (c == 0x28) | (c == 0x38);
+    (f[0] == START)
+        & (f[2] == f[1])
+        & (f[3] == START)
+        & (f[end] == sum)
+        & (f[last] == STOP)
+        & reply
+        & (f[6] == REPLY_CI)
 }
 
 // The code of a medium, and 0 of one that is not listed.
@@ -184,7 +210,7 @@ fn two_digits(b: u8) -> bool
     (b % 16 <= 9) & (b / 16 <= 9)
 }
 
-// The number that the eight digits at the start of s write, or none.
+// The reading that the eight digits at the start of s write, or none.
 fn reading_of(s: &[u8]) -> Found
     ensures { λ r. ⌜ r ≡ readingOf (now (s .entry)) ⌝ }
 {
@@ -231,32 +257,6 @@ fn first_reading(s: &[u8], unit: u8) -> Found
         }
     }
     Found::Nothing
-}
-
-// Whether the bytes are an unbroken frame around a reply.
-fn unbroken(f: &[u8]) -> bool
-    ensures { λ r. ⌜ r ≡ unbroken (now (f .entry)) ⌝ }
-{
-    let n = f.len();
-    if n < OPEN_LEN + LEAST_L + CLOSE_LEN {
-        return false;
-    }
-    let len = f[1] as usize;
-    if n != OPEN_LEN + len + CLOSE_LEN {
-        return false;
-    }
-    let end = OPEN_LEN + len;
-    let sum = sum_of(&f[OPEN_LEN..end]);
-    let last = end + 1;
-    let c = f[4];
-    let reply = (c == 0x08) | (c == 0x18) | (c == 0x28) | (c == 0x38);
-    (f[0] == START)
-        & (f[2] == f[1])
-        & (f[3] == START)
-        & (f[end] == sum)
-        & (f[last] == STOP)
-        & reply
-        & (f[6] == REPLY_CI)
 }
 
 // Puts the reading of an M-Bus reply at the start of out, as a transaction of one write to this meter with this stamp. It
