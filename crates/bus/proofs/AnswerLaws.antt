@@ -1,7 +1,7 @@
 -- What `from_bus` answers: each answer from the tests that lead to it.
 -- Assumes nothing.
 use Prim.Native.Nat.{ℕ, _+_, _<_, _≤_}
-use mathlib.Core.Path.{_≡_, refl, sym, ap, _∙_}
+use mathlib.Core.Path.{_≡_, sym, ap, _∙_}
 use mathlib.Core.Bool.{true, false}
 use mathlib.Core.List.{List, []}
 use native.Mathlib.Omega.{arith}
@@ -13,11 +13,10 @@ use Rattle.octets.proofs.CopyLaws.{over-room}
 use Rattle.transaction.specs.declared.Write.{Write}
 use Rattle.transaction.proofs.WrittenLaws.{length-one-write}
 use Rattle.transaction.specs.Transaction.{meters, minText, oneWrite}
-use Rattle.bus.specs.Frame.{openLen, leastL, mediumPlace, lenIn, bytesIn, unbroken}
+use Rattle.bus.specs.Frame.{openLen, leastL, mediumPlace, bytesIn, unbroken}
 use Rattle.bus.specs.Medium.{codeOf, unitOf}
 use Rattle.bus.specs.Records.{firstReading}
 use Rattle.bus.specs.Answer.{Told, turnDown, saidBy, codeIn, readingIn, heard, fromBus}
-use Rattle.bus.specs.declared.Found.{Found}
 use Rattle.bus.specs.declared.Found.the-variants as F
 use Rattle.bus.specs.declared.Heard.{Heard}
 use Rattle.bus.specs.declared.Heard.the-variants as H

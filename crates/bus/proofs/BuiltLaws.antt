@@ -1,26 +1,22 @@
 -- Digits and records as one writes them are read as what was written.
 -- Assumes nothing.
 use Prim.Native.Nat.{ℕ, zero, suc, _+_, _*_, _/_, _%_, _^_, _<_, _≤_}
-use mathlib.Core.Path.{_≡_, refl, sym, ap, ap₂, subst, _∙_}
-use mathlib.Core.Bool.{Bool, true, false, cond, _&&_}
+use mathlib.Core.Path.{_≡_, refl, sym, ap, ap₂, _∙_}
+use mathlib.Core.Bool.{Bool, true, false, _&&_}
 use mathlib.Core.List.{List, [], _∷_, _++_, append-assoc}
 use native.Mathlib.Nat.{pow-suc, add-zero}
 use native.Mathlib.Omega.{arith}
-use lib.Dec.{leb, eqb}
+use lib.Dec.{eqb}
 use lib.IntN.{ℤ, pos, negsuc}
-use lib.ListN.{length, take, drop, length-append, List·getD-append}
+use lib.ListN.{length, take, drop, length-append}
 use lib.Seq.{drop-append-seam, getD-append-add, drop-at}
 use borrow.Author.Tests.{lt-ltb, le-ltb, le-leb, eq-eqb, ne-eqb, eqb-true}
 use Rattle.octets.specs.Lists.{at}
 use Rattle.octets.specs.Bytes.{padded}
-use Rattle.octets.proofs.BoolLaws.{and-false}
-use Rattle.bus.specs.declared.DataLen.{DataLen}
 use Rattle.bus.specs.declared.DataLen.the-variants as D
-use Rattle.bus.specs.declared.Met.the-variants as M
-use Rattle.bus.specs.declared.Found.{Found}
 use Rattle.bus.specs.declared.Found.the-variants as F
 use Rattle.bus.specs.Digits.{digitsIn, decimal, allDigits, minus, readingBy, readingOf}
-use Rattle.bus.specs.Records.{filler, wantedDif, dataLen, fieldLen, difOf, vifOf, unusableVif, recordLen, wanted, look, firstReading, dataPlace}
+use Rattle.bus.specs.Records.{filler, wantedDif, dataLen, fieldLen, difOf, vifOf, unusableVif, recordLen, wanted, firstReading}
 use Rattle.bus.specs.Claim.{digitsOf, packed, bcd, EightDigits, Written, digits, minusZero, Field, Unwanted, Before, nothing, fillerThen, recordThen}
 use Rattle.bus.proofs.LookLaws.{look-filler, look-take, look-pass}
 use Rattle.bus.proofs.SearchLaws.{search-pass, search-take}

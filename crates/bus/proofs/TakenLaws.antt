@@ -1,22 +1,20 @@
 -- What is taken is a transaction of one write, in its layout.
 -- Assumes nothing.
-use Prim.Native.Nat.{ℕ, zero, suc, _+_, _*_, _^_, _<_, _≤_}
-use mathlib.Core.Path.{_≡_, refl, sym, ap, subst, _∙_}
+use Prim.Native.Nat.{ℕ, zero, suc, _^_, _<_, _≤_}
+use mathlib.Core.Path.{_≡_, refl, sym, ap, subst}
 use mathlib.Core.Bool.{Bool, true, false, cond, not, _&&_, _||_}
 use mathlib.Core.List.{List, [], _∷_}
-use native.Mathlib.Nat.{pow-suc, not-suc-le-zero}
+use native.Mathlib.Nat.{pow-suc}
 use native.Mathlib.Omega.{arith}
 use lib.Dec.{leb, ltb, eqb, lit≤}
 use lib.IntN.{ℤ, pos}
 use lib.Signed.{mag}
 use lib.ListN.{length, take, drop}
-use borrow.Author.Tests.{ltb-false, leb-true, leb-false, eqb-true, eqb-false, le-leb, lt-ltb, not-false}
+use borrow.Author.Tests.{ltb-false, leb-true, leb-false, eqb-false, le-leb, lt-ltb, not-false}
 use Rattle.octets.specs.Lists.{at}
-use Rattle.octets.specs.Bytes.{padded}
 use Rattle.octets.proofs.BoolLaws.{and-left, and-right}
-use Rattle.octets.proofs.EveryLaws.{and-both}
 use Rattle.transaction.specs.declared.Write.{Write}
-use Rattle.transaction.specs.Transaction.{meters, minText, legalWrite, legal, oneWrite}
+use Rattle.transaction.specs.Transaction.{meters, minText, legalWrite, legal}
 use Rattle.transaction.proofs.WrittenLaws.{one-write-count, one-write-stamp, one-write-back, one-write-legal}
 use Rattle.protocol.specs.declared.State.{State}
 use Rattle.protocol.specs.declared.Store.the-variants as S
@@ -25,7 +23,7 @@ use Rattle.protocol.specs.Said.{Said, refused, taken, Answered}
 use Rattle.table.specs.Table.{lanes}
 use Rattle.protocol.specs.States.{listed, ready}
 use Rattle.protocol.specs.Vaults.{counterMax}
-use Rattle.protocol.specs.Accept.{tooLow, accepted, accept}
+use Rattle.protocol.specs.Accept.{tooLow, accept}
 use Rattle.bus.specs.declared.Met.{Met}
 use Rattle.bus.specs.declared.Met.the-variants as M
 use Rattle.bus.specs.declared.Found.{Found}

@@ -13,7 +13,7 @@ use lib.Seq.{drop-at, drop-drop, length-take-le, getD-take, getD-drop}
 use borrow.Author.Tests.{le-leb, eqb-true, eqb-false}
 use Rattle.octets.specs.Lists.{at}
 use Rattle.octets.proofs.BoolLaws.{and-left, and-right}
-use Rattle.transaction.specs.Transaction.{meters, minText, oneWrite}
+use Rattle.transaction.specs.Transaction.{meters, minText}
 use Rattle.protocol.specs.declared.Store.the-variants as S
 use Rattle.protocol.specs.Said.{taken}
 use Rattle.bus.specs.declared.Found.{Found}

@@ -203,7 +203,7 @@ fn look(s: &[u8], unit: u8) -> Met
     Met::Pass(whole)
 }
 
-// Whether both digits of a byte are none above 9.
+// Whether neither digit of a byte is above 9.
 fn two_digits(b: u8) -> bool
     ensures { λ r. ⌜ r ≡ leb (b % 16) 9 && leb (b / 16) 9 ⌝ }
 {

@@ -3,7 +3,7 @@ use Rattle.bus.specs.Medium.{codeOf}
 use Rattle.bus.proofs.MediumLaws.{code-none, one-of}
 use mathlib.Core.Logic.{⊎-elim}
 use native.Mathlib.Omega.{arith}
-use mathlib.Core.Path.{_≡_, sym, ap}
+use mathlib.Core.Path.{sym, ap}
 use Rattle.bus.proofs.code_of.Statement.{statement}
 use Rattle.bus.proofs.code_of.Tie as tie
 

@@ -5,8 +5,8 @@ use Rattle.bus.proofs.FieldLaws.{field-end, field-more, field-past}
 use lib.ListN.{length, drop}
 use borrow.Author.Needs.{needs}
 use native.Mathlib.Omega.{arith}
-use mathlib.Core.Path.{_≡_, sym, ap, _∙_}
-use Prim.Native.Nat.{ℕ, _+_, _-_, _≤_}
+use mathlib.Core.Path.{_≡_}
+use Prim.Native.Nat.{_+_, _-_, _≤_}
 use Rattle.bus.proofs.field_len.Statement.{statement}
 use Rattle.bus.proofs.field_len.Tie as tie
 

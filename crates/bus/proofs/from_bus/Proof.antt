@@ -1,5 +1,4 @@
 -- `bus::from_bus` meets its contract: each answer from the tests that lead to it. Assumes nothing.
-use Rattle.bus.specs.Frame.{lenIn}
 use Rattle.bus.specs.Medium.{unitOf}
 use Rattle.bus.specs.Records.{firstReading}
 use Rattle.bus.specs.Answer.{codeIn}
@@ -13,7 +12,7 @@ use mir.Val.{toZ, ofZ}
 use borrow.Author.Needs.{needs}
 use native.Mathlib.Omega.{arith}
 use mathlib.Core.Path.{_≡_, sym, ap, ap₂, _∙_}
-use Prim.Native.Nat.{_+_, _-_}
+use Prim.Native.Nat.{_-_}
 use Rattle.bus.proofs.from_bus.Statement.{statement}
 use Rattle.bus.proofs.from_bus.Tie as tie
 

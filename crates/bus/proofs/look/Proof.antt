@@ -1,14 +1,14 @@
 -- `bus::look` meets its contract: each answer from the tests that lead to it. Assumes nothing.
-use Rattle.bus.specs.Records.{dataLen, fieldLen}
-use Rattle.bus.proofs.FieldLaws.{field-bound, field-some}
+use Rattle.bus.specs.Records.{fieldLen}
+use Rattle.bus.proofs.FieldLaws.{field-bound}
 use Rattle.bus.proofs.MediumLaws.{len-small}
 use Rattle.bus.proofs.LookLaws.{look-none, look-filler, look-unusable, look-over, look-short, look-vif, look-take, look-pass, vif-is, wanted-is, len-is}
 use Rattle.octets.proofs.PartLaws.{mid-rest}
-use lib.ListN.{length, drop, length-drop}
+use lib.ListN.{drop, length-drop}
 use borrow.Author.Needs.{needs}
 use native.Mathlib.Omega.{arith}
-use mathlib.Core.Path.{_≡_, sym, ap, _∙_}
-use Prim.Native.Nat.{ℕ, _+_, _-_, _≤_}
+use mathlib.Core.Path.{sym, ap, _∙_}
+use Prim.Native.Nat.{_-_}
 use Rattle.bus.specs.declared.Met.the-variants as M
 use Rattle.bus.proofs.look.Statement.{statement}
 use Rattle.bus.proofs.look.Tie as tie

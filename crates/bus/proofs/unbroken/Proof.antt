@@ -1,10 +1,10 @@
 -- `bus::unbroken` meets its contract: too few bytes for L cannot be right, and of L + 6 the tests are the definition's. Assumes nothing.
-use Rattle.bus.specs.Frame.{sum, replyC, lenIn}
+use Rattle.bus.specs.Frame.{sum, replyC}
 use Rattle.bus.proofs.FrameLaws.{unbroken-is, unbroken-long, unbroken-short, bytes-part}
 use borrow.Author.Needs.{needs}
 use native.Mathlib.Omega.{arith}
 use mathlib.Core.List.{List}
-use mathlib.Core.Path.{_≡_, sym, ap, _∙_}
+use mathlib.Core.Path.{sym, ap, _∙_}
 use Prim.Native.Nat.{ℕ, _%_}
 use Rattle.bus.proofs.unbroken.Statement.{statement}
 use Rattle.bus.proofs.unbroken.Tie as tie

@@ -1,7 +1,6 @@
 -- `bus::unit_of` meets its contract: the test is the definition's. Assumes nothing.
 use Rattle.bus.specs.Medium.{unitOf}
 use borrow.Author.Tests.{le-leb, lt-leb}
-use mathlib.Core.Path.{refl}
 use Rattle.bus.proofs.unit_of.Statement.{statement}
 use Rattle.bus.proofs.unit_of.Tie as tie
 
