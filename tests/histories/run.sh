@@ -13,6 +13,7 @@ quietly sh tools/cargo.sh build --release --quiet
 
 sheet=crates/bench_sheet/stdout
 "$rust/sheet" >"$log"
+"$rust/bus_sheet" <crates/bench_sheet/stdin >>"$log"
 if ! diff "$log" "$sheet" >&2; then
     echo "the model's answers to the bench sheet are not the library's" >&2
     exit 1

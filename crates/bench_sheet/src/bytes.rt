@@ -1,7 +1,8 @@
-// What a call is handed: a transaction, a checkpoint file, a log. Each stands at the start of a buffer, and the script
-// says how long it is.
+// What a call is handed: a transaction, a checkpoint file, a log, or a frame in the log's place. Each stands at the start of a
+// buffer, and the script says how long it is.
 ghost use Prim.Native.Nat.{_≤_};
 ghost use lib.ListN.{length};
+use super::frame;
 use super::script;
 use super::script::Command;
 use super::words::FILE;
@@ -37,7 +38,7 @@ pub fn within(n: usize, s: &[u8]) -> usize
     n
 }
 
-fn set(s: &mut [u8], i: usize, x: u8) {
+pub fn set(s: &mut [u8], i: usize, x: u8) {
     if i < s.len() {
         s[i] = x;
     }
@@ -51,7 +52,7 @@ fn turn(s: &mut [u8], i: usize) {
 }
 
 // Bytes put into a buffer from a place on.
-fn put(s: &[u8], to: &mut [u8], at: usize) {
+pub fn put(s: &[u8], to: &mut [u8], at: usize) {
     if at <= to.len() {
         octets::copy(s, &mut to[at..]);
     }
@@ -155,6 +156,6 @@ pub fn lengths_after(n: Lengths, m: Command) -> Lengths {
         LOG | LOG_LENGTH => with_log(n, k),
         LOG_ADD => with_log(n, std::num::wrapping_add_usize(n.log, k)),
         RECORD => with_log(n, std::num::wrapping_add_usize(n.log, record_len(n.text))),
-        _ => n,
+        _ => with_log(n, frame::len_after(n.log, m)),
     }
 }

@@ -7,15 +7,18 @@ use super::script::Command;
 use super::words::ACCEPT;
 use super::words::CHECKPOINT;
 use super::words::COMMIT;
+use super::words::FROM_BUS;
 use super::words::LOAD;
 use super::words::POINT;
 use super::words::RECOVER;
 use super::words::SEAL;
 use super::words::TRUNCATE;
 use super::write;
+use bus::Heard;
 use collector::Collector;
 use collector::Handed;
 use protocol::Vault;
+use transaction::MIN_TEXT;
 
 // The answer is written.
 fn said(s: &[u8], m: Command, h: Handed) -> Collector {
@@ -32,8 +35,10 @@ fn load(x: Vault, s: &[u8], m: Command) -> Collector {
 }
 
 // What is put out takes the place of 165s.
+const CLEAR: [u8; 6185] = [165u8; 6185];
+
 fn cleared(out: &mut [u8]) {
-    octets::copy(&[165u8; 6185], out);
+    octets::copy(&CLEAR, out);
 }
 
 fn seal(c: Collector, s: &[u8], m: Command, out: &mut [u8]) -> Collector {
@@ -113,4 +118,35 @@ pub fn lent(
         return recover(c, s, m, file, log, out);
     }
     c
+}
+
+// How many bytes an answer to a frame puts out.
+fn put_by(h: Heard) -> usize {
+    match h {
+        Heard::Taken => MIN_TEXT,
+        Heard::Short(_) | Heard::Meter | Heard::Broken | Heard::Unusable => 0,
+    }
+}
+
+// Whether the bytes from a place on are as they were before the call.
+fn kept(out: &[u8], from: usize) -> bool {
+    octets::same(
+        script::part(out, from, out.len()),
+        script::part(&CLEAR, from, out.len()),
+    )
+}
+
+// The reading in a frame, as a transaction.
+fn from_bus(s: &[u8], m: Command, frame: &[u8], out: &mut [u8]) {
+    cleared(out);
+    let n = bytes::within(m.a as usize, out);
+    let heard = bus::from_bus(frame, (m.b % 65536) as u16, m.c, &mut out[..n]);
+    write::heard(script::name_of(s, m), heard, out, kept(out, put_by(heard)));
+}
+
+// The call without a collector.
+pub fn alone(s: &[u8], m: Command, frame: &[u8], out: &mut [u8]) {
+    if m.word == FROM_BUS {
+        return from_bus(s, m, frame, out);
+    }
 }

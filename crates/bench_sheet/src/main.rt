@@ -1,9 +1,10 @@
-// 01's cases, run on the compiled code: for each operation and each number that it can return a case just inside and one
-// just outside, and the marked cases of the bench sheet (M). The cases are a script, the file `stdin` of this crate, which
-// says at its head what each word of it does; here is what carries it out. A line a case is written, and one for a word
-// that is none of the script's.
+// 01's and 02's cases, run on the compiled code: for each operation, for a reading off the wired bus, and for each number that
+// it can return a case just inside and one just outside, and the marked cases of the bench sheet (M). The cases are a script,
+// the file `stdin` of this crate, which says at its head what each word of it does; here is what carries it out. A line a case
+// is written, and one for a word that is none of the script's.
 mod bytes;
 mod call;
+mod frame;
 mod made;
 mod script;
 mod show;
@@ -70,19 +71,28 @@ fn makes(b: Bench, m: Command) -> Bench {
     kept(d, m)
 }
 
-// What it makes of a log.
-fn logs(m: Command, n: Lengths, text: &[u8], log: &mut [u8], out: &[u8]) {
+// What it makes of a log, or of a frame in its place.
+fn logs(s: &[u8], m: Command, n: Lengths, text: &[u8], log: &mut [u8], out: &[u8]) {
     if m.word == RECORD {
         return call::record(m, bytes::first(text, n.text), log, n.log);
     }
-    bytes::logs(m, n, out, log)
+    bytes::logs(m, n, out, log);
+    frame::frames(s, m, n.log, log);
 }
 
 // What it makes of what calls are handed.
-fn hands(m: Command, n: Lengths, text: &mut [u8], file: &mut [u8], log: &mut [u8], out: &[u8]) {
+fn hands(
+    s: &[u8],
+    m: Command,
+    n: Lengths,
+    text: &mut [u8],
+    file: &mut [u8],
+    log: &mut [u8],
+    out: &[u8],
+) {
     bytes::texts(m, text);
     bytes::files(m, out, file);
-    logs(m, n, text, log, out);
+    logs(s, m, n, text, log, out);
 }
 
 // What it calls.
@@ -98,6 +108,7 @@ fn calls(
     out: &mut [u8],
 ) -> Collector {
     let given = bytes::first(log, n.log);
+    call::alone(s, m, given, out);
     let d = call::plain(c, x, s, m, bytes::first(text, n.text), given);
     call::lent(d, s, m, bytes::first(file, n.file), given, out)
 }
@@ -120,7 +131,7 @@ fn step(
     out: &mut [u8],
 ) -> Bench {
     let mut d = makes(b, m);
-    hands(m, d.lengths, text, file, log, out);
+    hands(s, m, d.lengths, text, file, log, out);
     let n = bytes::lengths_after(d.lengths, m);
     let c = calls(d.collector, d.numbers, n, s, m, text, file, log, out);
     shows(c, s, m, out);

@@ -83,6 +83,24 @@ pub const SBOX: u8 = 38;
 
 pub const NONCE: u8 = 39;
 
+pub const FRAME: u8 = 40;
+
+pub const REPLY: u8 = 41;
+
+pub const MORE: u8 = 42;
+
+pub const FILLER: u8 = 43;
+
+pub const SET: u8 = 44;
+
+pub const SUM: u8 = 45;
+
+pub const ADD: u8 = 46;
+
+pub const CUT: u8 = 47;
+
+pub const FROM_BUS: u8 = 48;
+
 // The number of a word if it is this one.
 fn named(w: &[u8], word: &[u8], number: u8) -> u8 {
     if octets::same(w, word) {
@@ -126,6 +144,17 @@ fn bytes(w: &[u8]) -> u8 {
         | named(w, b"log-length", LOG_LENGTH)
 }
 
+fn frames(w: &[u8]) -> u8 {
+    named(w, b"frame", FRAME)
+        | named(w, b"reply", REPLY)
+        | named(w, b"more", MORE)
+        | named(w, b"filler", FILLER)
+        | named(w, b"set", SET)
+        | named(w, b"sum", SUM)
+        | named(w, b"add", ADD)
+        | named(w, b"cut", CUT)
+}
+
 fn calls(w: &[u8]) -> u8 {
     named(w, b"load", LOAD)
         | named(w, b"accept", ACCEPT)
@@ -135,6 +164,7 @@ fn calls(w: &[u8]) -> u8 {
         | named(w, b"checkpoint", CHECKPOINT)
         | named(w, b"truncate", TRUNCATE)
         | named(w, b"recover", RECOVER)
+        | named(w, b"from-bus", FROM_BUS)
 }
 
 fn shows(w: &[u8]) -> u8 {
@@ -147,5 +177,5 @@ fn shows(w: &[u8]) -> u8 {
 }
 
 pub fn number_of(w: &[u8]) -> u8 {
-    numbers(w) | collectors(w) | bytes(w) | calls(w) | shows(w)
+    numbers(w) | collectors(w) | bytes(w) | frames(w) | calls(w) | shows(w)
 }

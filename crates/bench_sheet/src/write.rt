@@ -1,6 +1,9 @@
 // What a command of the script shows: its name, and what the call answered: the store that it named and the bytes that it
 // put out, or the number on the display and the value beside it.
+use super::script;
+use bus::Heard;
 use libc::STDOUT_FILENO;
+use octets::little;
 use protocol::Outcome;
 use protocol::Refusal;
 use protocol::Store;
@@ -92,6 +95,49 @@ pub fn answer(name: &[u8], o: Outcome) {
         Outcome::Refused { why } => refusal(why),
     }
     text(b"\n");
+}
+
+// A reading, of its two's complement.
+fn signed(bits: u32) {
+    if bits < 0x8000_0000 {
+        return number(bits as u64);
+    }
+    text(b"-");
+    number(std::num::wrapping_sub_u32(0, bits) as u64);
+}
+
+// The transaction of one write at the start of out, in its layout's order.
+fn transaction(out: &[u8]) {
+    text(b"taken, stamp ");
+    number(little::u64_in(out));
+    text(b", meter ");
+    number(little::u16_in(script::part(out, 8, 10)) as u64);
+    text(b", code ");
+    number(octets::byte_at(out, 10) as u64);
+    text(b", ");
+    number(octets::byte_at(out, 11) as u64);
+    text(b", reading ");
+    signed(little::u32_in(script::part(out, 12, 16)));
+}
+
+// The line of a frame, and whether all that was not put out is as it was.
+pub fn heard(name: &[u8], h: Heard, out: &[u8], kept: bool) {
+    if name.len() == 0 {
+        return;
+    }
+    text(name);
+    text(b": ");
+    match h {
+        Heard::Taken => transaction(out),
+        Heard::Short(right) => valued(3, right),
+        Heard::Meter => number(4),
+        Heard::Broken => number(16),
+        Heard::Unusable => number(17),
+    }
+    if kept {
+        return text(b", the rest kept\n");
+    }
+    text(b", the rest changed\n");
 }
 
 // A line with a number.
