@@ -1,7 +1,8 @@
-/* The boundary as a C program meets it: the library and include/paviluko.h agree on their edition and on every struct, a state
- * of zeros is none, a short session runs, a call that is turned down hands the state back as it came, and a NULL buffer is one
- * of length 0. */
+/* The boundary as a C program meets it: the library and include/paviluko.h agree on their edition, on every struct and on the
+ * lengths of frame and transaction, a state of zeros is none, a short session runs, a call that is turned down hands the state
+ * back as it came, and a NULL buffer is one of length 0. */
 #include "check.h"
+#include "frame.h"
 #include "same.h"
 
 /* ---- the host's side: a vault, a card of a few records, and the newest file ---- */
@@ -184,12 +185,82 @@ static void zeros(void)
     no_state(&s);
 }
 
+/* ---- from the wired bus ---- */
+
+/* Stamp 1000, meter 9, code 3, reading -5. */
+static const uint8_t transaction[PAVILUKO_TRANSACTION_MIN] = {0xe8, 3, 0, 0, 0, 0, 0, 0, 9, 0, 3, 0, 0xfb, 0xff, 0xff, 0xff};
+
+/* A frame of this medium with these records; its length. */
+static size_t frame_of(uint8_t *frame, uint8_t medium, const uint8_t *records, size_t len)
+{
+    memset(frame, 0, RECORDS_AT);
+    frame[MEDIUM_AT] = medium;
+    memcpy(frame + RECORDS_AT, records, len);
+    frame_close(frame, FRAME_MIN + len);
+    return FRAME_MIN + len;
+}
+
+static void bus(void)
+{
+    /* A heat meter: DIF 0C, VIF 06, -5 kWh; and as much filler as a frame has room for. */
+    static const uint8_t minus_five[6] = {0x0c, 0x06, 0x05, 0, 0, 0xf0};
+    static uint8_t records[PAVILUKO_FRAME_MAX];
+    static uint8_t frame[PAVILUKO_FRAME_MAX + 1];
+    uint8_t put[PAVILUKO_TRANSACTION_MIN + 4], was[sizeof put];
+    size_t len, room;
+    memset(records, 0x2f, sizeof records);
+    memcpy(records, minus_five, sizeof minus_five);
+    memset(was, 0xa5, sizeof was);
+
+    /* One write is the least transaction, and the room for it is what is asked for. */
+    len = frame_of(frame, 0x04, records, sizeof minus_five);
+    for (room = 0; room <= sizeof put; room++) {
+        memcpy(put, was, sizeof put);
+        paviluko_said said = paviluko_from_bus(frame, len, 9, 1000, put, room);
+        if (room < PAVILUKO_TRANSACTION_MIN) {
+            refused(said, PAVILUKO_REFUSED_LENGTH, PAVILUKO_TRANSACTION_MIN);
+            CHECK(memcmp(put, was, sizeof put) == 0);
+        } else {
+            taken(said, PAVILUKO_STORE_NONE, 0, 0, PAVILUKO_TRANSACTION_MIN);
+            CHECK(memcmp(put, transaction, sizeof transaction) == 0);
+            CHECK(memcmp(put + sizeof transaction, was, sizeof put - sizeof transaction) == 0);
+        }
+    }
+
+    /* Every length of a frame, the longest too, is taken; no L goes with a byte more. */
+    for (len = sizeof minus_five; FRAME_MIN + len <= PAVILUKO_FRAME_MAX; len++) {
+        size_t frame_len = frame_of(frame, 0x04, records, len);
+        taken(paviluko_from_bus(frame, frame_len, 9, 1000, put, sizeof put), PAVILUKO_STORE_NONE, 0, 0, PAVILUKO_TRANSACTION_MIN);
+        CHECK(memcmp(put, transaction, sizeof transaction) == 0);
+    }
+    CHECK(frame[1] == 255);
+    frame_of(frame, 0x04, records, PAVILUKO_FRAME_MAX + 1 - FRAME_MIN);
+    memcpy(put, was, sizeof put);
+    for (int l = 0; l < 256; l++) {
+        frame[1] = frame[2] = (uint8_t)l;
+        refused(paviluko_from_bus(frame, sizeof frame, 9, 1000, put, sizeof put), PAVILUKO_REFUSED_FRAME, 0);
+    }
+
+    /* The numbers, lowest first. */
+    len = frame_of(frame, 0x04, records, sizeof minus_five);
+    refused(paviluko_do_from_bus(frame, len, PAVILUKO_METERS, 1000, put, sizeof put), PAVILUKO_REFUSED_TRANSACTION, 0);
+    frame[MEDIUM_AT] = 0x05;
+    refused(paviluko_do_from_bus(frame, len, PAVILUKO_METERS - 1, 1000, put, sizeof put), PAVILUKO_REFUSED_FRAME, 0);
+    frame_close(frame, len);
+    refused(paviluko_do_from_bus(frame, len, PAVILUKO_METERS - 1, 1000, put, sizeof put), PAVILUKO_REFUSED_NO_READING, 0);
+    refused(paviluko_do_from_bus(frame, len, PAVILUKO_METERS, 1000, put, 15), PAVILUKO_REFUSED_LENGTH, PAVILUKO_TRANSACTION_MIN);
+    CHECK(PAVILUKO_REFUSED_FRAME == 16 && PAVILUKO_REFUSED_NO_READING == 17);
+
+    /* NULL is no frame, and no room, whatever length stands beside it. */
+    refused(paviluko_do_from_bus(NULL, len, 9, 1000, put, sizeof put), PAVILUKO_REFUSED_FRAME, 0);
+    refused(paviluko_do_from_bus(frame, len, 9, 1000, NULL, sizeof put), PAVILUKO_REFUSED_LENGTH, PAVILUKO_TRANSACTION_MIN);
+    refused(paviluko_do_from_bus(NULL, len, 9, 1000, NULL, sizeof put), PAVILUKO_REFUSED_LENGTH, PAVILUKO_TRANSACTION_MIN);
+    CHECK(memcmp(put, was, sizeof put) == 0);
+}
+
 /* ---- a session ---- */
 
 static const uint8_t key[PAVILUKO_KEY_LEN] = {1, 2, 3, 4, 5, 6, 7, 8, 9, 10, 11, 12, 13, 14, 15, 16};
-/* Stamp 1000, meter 9, code 3, reading -5. */
-static const uint8_t transaction[16] = {0xe8, 3, 0, 0, 0, 0, 0, 0, 9, 0, 3, 0, 0xfb, 0xff, 0xff, 0xff};
-
 static void recover(paviluko_state *s, int calls)
 {
     size_t file_len = vault.s == 0 ? 0 : PAVILUKO_CHECKPOINT_LEN;
@@ -341,6 +412,7 @@ int main(void)
     CHECK(paviluko_edition() == PAVILUKO_EDITION);
     structs();
     zeros();
+    bus();
     session();
     printf("boundary: %ld checks passed; state %zu bytes, reply %zu\n", checks, sizeof(paviluko_state),
            sizeof(paviluko_reply));

@@ -1,12 +1,13 @@
 /* What a host can hand over by mistake, through every function of the C boundary: states of random numbers, good states with
- * one field changed, buffers of length 0 and of wrong lengths, bytes that are no record. A call that is turned down leaves
- * state and buffer as they were; a call that is taken writes its len bytes and none behind them. Buffers have their exact
- * length on the heap, so that valgrind sees every byte read or written beside them.
+ * one field changed, buffers of length 0 and of wrong lengths, bytes that are no record, frames of every length. A call that
+ * is turned down leaves state and buffer as they were; a call that is taken writes its len bytes and none behind them. Buffers
+ * have their exact length on the heap, so that valgrind sees every byte read or written beside them.
  *
  * Argument: how many rounds. */
 #include <stdio.h>
 #include <stdlib.h>
 
+#include "frame.h"
 #include "same.h"
 
 static uint64_t calls, refused;
@@ -303,6 +304,107 @@ static void nulls(const paviluko_state *s, const paviluko_vault *x, const uint8_
     }
 }
 
+/* ---- frames of the wired bus ---- */
+
+static uint64_t heard[PAVILUKO_REFUSED_NO_READING + 1]; /* how often each number was said */
+
+/* A frame at its exact length, lent with some room. Turned down it leaves out as it was; taken it writes the transaction and
+ * nothing behind it. 0 for a number means any. */
+static void hear(const uint8_t *bytes, size_t len, unsigned wanted)
+{
+    size_t room = below(4) ? PAVILUKO_TRANSACTION_MIN + below(3) : below(PAVILUKO_TRANSACTION_MIN);
+    uint16_t meter = (uint16_t)(below(8) ? below(PAVILUKO_METERS) : number());
+    uint64_t stamp = number();
+    uint8_t *frame = copy(bytes, len), *out = lend(room), *was = copy(out, room);
+    paviluko_said said = paviluko_from_bus(frame, len, meter, stamp, out, room);
+    if (room < PAVILUKO_TRANSACTION_MIN) {
+        wanted = PAVILUKO_REFUSED_LENGTH;
+    } else if (meter >= PAVILUKO_METERS) {
+        wanted = PAVILUKO_REFUSED_TRANSACTION;
+    }
+    calls++;
+    refused += said.number != PAVILUKO_TAKEN;
+    if ((wanted && said.number != wanted) || said.number > PAVILUKO_REFUSED_NO_READING) {
+        wrong("from_bus", "another answer was wanted", &said);
+    }
+    heard[said.number]++;
+    if (said.store || said.lane || said.value != (said.number == PAVILUKO_REFUSED_LENGTH ? PAVILUKO_TRANSACTION_MIN : 0) ||
+        said.len != (said.number ? 0 : PAVILUKO_TRANSACTION_MIN)) {
+        wrong("from_bus", "no such answer", &said);
+    }
+    if (room && memcmp(out + said.len, was + said.len, room - said.len)) {
+        wrong("from_bus", "bytes written that are not the answer's", &said);
+    }
+    if (!said.number && (memcmp(out, &stamp, 8) || memcmp(out + 8, &meter, 2) || !out[10] || out[10] > 4 || out[11])) {
+        wrong("from_bus", "no transaction of this meter and stamp", &said);
+    }
+    if (len && memcmp(frame, bytes, len)) {
+        wrong("from_bus", "the frame has changed", &said);
+    }
+    free(frame);
+    free(out);
+    free(was);
+}
+
+/* Bytes of which records are made: DIFs and VIFs with and without extension, filler, digits. Before half of them stands filler
+ * and a record that may be taken, whole or with its end cut off. */
+static void records(uint8_t *to, size_t len)
+{
+    static const uint8_t wanted[2][6] = {{0x0c, 0x13, 0x78, 0x56, 0x34, 0x12}, {0x0c, 0x06, 0x99, 0x99, 0x99, 0xf9}};
+    static const uint8_t parts[] = {0x00, 0x01, 0x04, 0x06, 0x06, 0x07, 0x0c, 0x0c, 0x0c,
+                                    0x12, 0x13, 0x13, 0x2f, 0x80, 0x84, 0x93, 0xf9, 0xfd};
+    for (size_t i = 0; i < len; i++) {
+        to[i] = below(40) ? parts[below(sizeof parts)] : (uint8_t)any();
+    }
+    if (len && below(2)) {
+        size_t at = below(2) || len < 8 ? below(len) : len - 1 - below(8);
+        memset(to, 0x2f, at);
+        memcpy(to + at, wanted[below(2)], len - at < 6 ? len - at : 6);
+    }
+}
+
+/* A length of a frame: random bytes; a frame of records that may run past its end; the same with a byte changed, with one
+ * changed and the sum put right, cut and extended. */
+static void frames(size_t len)
+{
+    static const uint8_t media[] = {0x04, 0x06, 0x07, 0x0a, 0x0b, 0x0c, 0x15, 0x16, 0x03};
+    uint8_t bytes[PAVILUKO_FRAME_MAX + 1];
+    fill(bytes, len);
+    hear(bytes, len, PAVILUKO_REFUSED_FRAME);
+    if (len < FRAME_MIN) {
+        return;
+    }
+    size_t at = below(len);
+    fill(bytes, RECORDS_AT);
+    bytes[MEDIUM_AT] = media[below(sizeof media)];
+    records(bytes + RECORDS_AT, len - FRAME_MIN);
+    frame_close(bytes, len);
+    hear(bytes, len, 0);
+    hear(bytes, below(len), PAVILUKO_REFUSED_FRAME);
+    bytes[len] = 0x16;
+    hear(bytes, len + 1, PAVILUKO_REFUSED_FRAME);
+    bytes[at] = (uint8_t)(bytes[at] + 1 + below(255));
+    hear(bytes, len, PAVILUKO_REFUSED_FRAME);
+    frame_close(bytes, len);
+    hear(bytes, len, 0);
+}
+
+/* NULL for the frame and for out, whatever lengths stand beside them: the answers of empty ones. */
+static void null_frames(void)
+{
+    static const size_t lens[] = {0, 1, PAVILUKO_TRANSACTION_MIN, FRAME_MIN, PAVILUKO_FRAME_MAX, SIZE_MAX};
+    uint8_t out[PAVILUKO_TRANSACTION_MIN] = {0};
+    for (size_t i = 0; i < sizeof lens / sizeof lens[0]; i++) {
+        paviluko_said no_frame = paviluko_do_from_bus(NULL, lens[i], 1, 1, out, sizeof out);
+        paviluko_said no_room = paviluko_do_from_bus(out, sizeof out, 1, 1, NULL, lens[i]);
+        calls += 2;
+        refused += 2;
+        if (no_frame.number != PAVILUKO_REFUSED_FRAME || no_room.number != PAVILUKO_REFUSED_LENGTH) {
+            wrong("from_bus", "NULL: not the answer of an empty buffer", &no_frame);
+        }
+    }
+}
+
 int main(int argc, char **argv)
 {
     long rounds = argc > 1 ? atol(argv[1]) : 200;
@@ -379,6 +481,19 @@ int main(int argc, char **argv)
     free(zeros);
     free(record);
 
+    null_frames();
+    for (long round = 0; round < 1 + rounds / 50; round++) {
+        for (size_t len = 0; len <= PAVILUKO_FRAME_MAX; len++) {
+            frames(len);
+        }
+    }
+    if (!heard[0] || !heard[3] || !heard[4] || !heard[16] || !heard[17]) {
+        fprintf(stderr, "from_bus: a number was never said\n");
+        return 1;
+    }
+    printf("bad frames: %llu taken; turned down %llu with 3, %llu with 4, %llu with 16, %llu with 17\n",
+           (unsigned long long)heard[0], (unsigned long long)heard[3], (unsigned long long)heard[4],
+           (unsigned long long)heard[16], (unsigned long long)heard[17]);
     printf("bad input: %llu calls, %llu of them turned down, nothing else touched\n", (unsigned long long)calls,
            (unsigned long long)refused);
     return 0;

@@ -1,7 +1,7 @@
 /* What the paviluko_do_ functions of the header pass on. The functions that they call are made here, and the library is not
  * linked: each notes what it is handed. A NULL buffer arrives as an address and length 0, whatever length stood beside it;
- * everything else arrives as it was given; the next state is written back, but for a load that is turned down; and what was
- * said is returned. */
+ * everything else arrives as it was given; the next state is written back, but for a load that is turned down, where there is a
+ * state; and what was said is returned. */
 #include <string.h>
 
 #include "check.h"
@@ -15,7 +15,9 @@ typedef struct {
     size_t lens[3];
     int count;
     uint8_t lane;
+    uint16_t meter;
     uint64_t position;
+    uint64_t stamp;
     uint64_t from; /* a number of the state or vault that was handed over */
 } handed_over;
 
@@ -106,15 +108,27 @@ paviluko_reply paviluko_recover(paviluko_state s, const uint8_t *checkpoint, siz
     return r;
 }
 
+paviluko_said paviluko_from_bus(const uint8_t *frame, size_t len, uint16_t meter, uint64_t stamp, uint8_t *out, size_t room)
+{
+    paviluko_said said = note("from_bus", 5).said;
+    note_buffer(frame, len);
+    note_buffer(out, room);
+    got.meter = meter;
+    got.stamp = stamp;
+    return said;
+}
+
 /* ---- the checks ---- */
 
 static paviluko_state s;
 
 static void look(const char *name, paviluko_said said, int buffers, uint8_t lane, uint64_t position)
 {
-    int kept = strcmp(name, "load") == 0 && answer != PAVILUKO_TAKEN;
+    int stateless = strcmp(name, "from_bus") == 0;
+    int kept = stateless || (strcmp(name, "load") == 0 && answer != PAVILUKO_TAKEN);
     CHECK(strcmp(got.name, name) == 0 && got.from == 5 && got.count == buffers);
     CHECK(got.lane == lane && got.position == position);
+    CHECK(got.meter == (stateless ? 65535 : 0) && got.stamp == (stateless ? UINT64_MAX : 0));
     CHECK(said.value == 11 && said.len == 12 && said.number == answer && said.store == 13 && said.lane == 14);
     CHECK(s.vault.e == (kept ? 5 : 7005));
     s.vault.e = 5;
@@ -148,6 +162,9 @@ static void calls(uint8_t *a, uint8_t *b, uint8_t *c, size_t len)
     arrived(0, a, len);
     arrived(1, b, len + 1);
     arrived(2, c, len + 2);
+    look("from_bus", paviluko_do_from_bus(a, len, 65535, UINT64_MAX, b, len + 1), 2, 0, 0);
+    arrived(0, a, len);
+    arrived(1, b, len + 1);
 }
 
 int main(void)
@@ -155,7 +172,7 @@ int main(void)
     static const size_t lens[] = {0, 1, 16, 56, PAVILUKO_CHECKPOINT_LEN, PAVILUKO_LOG_MAX + 1, SIZE_MAX - 2};
     static uint8_t bytes[3];
     s.vault.e = 5;
-    for (answer = PAVILUKO_TAKEN; answer <= PAVILUKO_REFUSED_UNSEEN; answer++) {
+    for (answer = PAVILUKO_TAKEN; answer <= PAVILUKO_REFUSED_NO_READING; answer++) {
         for (size_t i = 0; i < sizeof lens / sizeof lens[0]; i++) {
             for (int which = 0; which < 8; which++) {
                 calls(which & 1 ? NULL : &bytes[0], which & 2 ? NULL : &bytes[1], which & 4 ? NULL : &bytes[2], lens[i]);

@@ -65,10 +65,10 @@ for standard in c99 c11 c++17; do
     refuses 'static assertion failed\|is negative' "$standard" "$built/edited"
 done
 
-# The numbers 1 to 15 in order, each a PAVILUKO_REFUSED_, and none of the names that these things had before.
+# The numbers 1 to 17 in order, each a PAVILUKO_REFUSED_, and none of the names that these things had before.
 sed -n '/PAVILUKO_TAKEN = 0/,/};/s/^ *\(PAVILUKO_[A-Z_]*\) = \([0-9]*\).*/\1 \2/p' "$header" | awk '
     $2 != NR - 1 || $1 !~ (NR == 1 ? "^PAVILUKO_TAKEN$" : "^PAVILUKO_REFUSED_") { exit 1 }
-    END { if (NR != 16) exit 1 }' || fail "the numbers of the header are not PAVILUKO_TAKEN and 15 times PAVILUKO_REFUSED_"
+    END { if (NR != 18) exit 1 }' || fail "the numbers of the header are not PAVILUKO_TAKEN and 17 times PAVILUKO_REFUSED_"
 if grep -nE 'paviluko_[a-z_]*(mark|journal)|PAVILUKO_[A-Z_]*(MARK|JOURNAL)' "$header" ||
     grep -nwE 'paviluko_points_kept|PAVILUKO_(LISTED|CONDITION|NUMBERS|LENGTH|TRANSACTION|LANE|POSITION|FULL)' "$header" ||
     grep -nwE 'PAVILUKO_(SPENT|CLOSED|EPOCH|TURN|VERSION|MISSING|NO_POINT|UNSEEN)' "$header"; then
