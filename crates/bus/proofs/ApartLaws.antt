@@ -16,6 +16,7 @@ use Rattle.octets.specs.Lists.{at}
 use Rattle.octets.specs.Bytes.{padded}
 use Rattle.octets.proofs.BoolLaws.{and-left, and-right, or-left, or-right}
 use Rattle.octets.proofs.EveryLaws.{and-both}
+use Rattle.table.proofs.OrderLaws.{clash}
 use Rattle.bus.specs.declared.DataLen.{DataLen}
 use Rattle.bus.specs.declared.DataLen.the-variants as D
 use Rattle.bus.specs.declared.Met.{Met}
@@ -25,12 +26,10 @@ use Rattle.bus.specs.declared.Found.the-variants as F
 use Rattle.bus.specs.Digits.{digitsIn, decimal, allDigits, minus, readingBy, readingOf}
 use Rattle.bus.specs.Records.{filler, wantedDif, dataLen, fieldLen, difOf, vifOf, unusableVif, recordLen, wanted, lookRecord, look, follow, firstWithin, firstReading, dataPlace}
 use Rattle.bus.specs.Claim.{digitsOf, packed, bcd, EightDigits, Written, digits, minusZero, Field, Unwanted, Before, nothing, fillerThen, recordThen}
-use Rattle.bus.proofs.FieldLaws.{field-some}
+use Rattle.bus.proofs.FieldLaws.{cond-by, field-some}
 use Rattle.bus.proofs.FrameLaws.{places}
+use Rattle.bus.proofs.DigitLaws.{eight}
 use Rattle.bus.proofs.TakenLaws.{decimal-lt}
-
-clash : {X : Type 0} → true ≡ false → X
-clash e = let w : _≡_ {A = ℕ} 0 1 = cc in absurd (omega arith)
 
 -- ---- what is found is a reading
 
@@ -76,29 +75,26 @@ module _ (a b c d : ℕ) where
   abbrev bytes : List ℕ
   bytes = a ∷ b ∷ c ∷ d ∷ []
 
-  abbrev eight : List ℕ
-  eight = a % 16 ∷ a / 16 ∷ b % 16 ∷ b / 16 ∷ c % 16 ∷ c / 16 ∷ d % 16 ∷ d / 16 ∷ []
-
-  packed-back : packed eight ≡ bytes
+  packed-back : packed (eight a b c d) ≡ bytes
   unfolding packed
   packed-back =
       let e : (n : ℕ) → n % 16 + 16 * (n / 16) ≡ n = λ n. omega arith in
       λ i. e a i ∷ e b i ∷ e c i ∷ e d i ∷ []
 
-  -- eight digits
-  plain-back : allDigits eight ≡ true → Written (pos (decimal eight)) bytes
+  -- (eight a b c d) digits
+  plain-back : allDigits (eight a b c d) ≡ true → Written (pos (decimal (eight a b c d))) bytes
   unfolding bcd EightDigits
   plain-back g =
-      let h : decimal eight < 10 ^ 8 = decimal-lt eight g in
-      subst (Written (pos (decimal eight))) (ap packed (digits-of 8 eight [] refl g) ∙ packed-back) (digits (pos (decimal eight)) (omega arith))
+      let h : decimal (eight a b c d) < 10 ^ 8 = decimal-lt (eight a b c d) g in
+      subst (Written (pos (decimal (eight a b c d)))) (ap packed (digits-of 8 (eight a b c d) [] refl g) ∙ packed-back) (digits (pos (decimal (eight a b c d))) (omega arith))
 
   -- seven under a sign
-  minus-back : allDigits (take 7 eight) ≡ true → at eight 7 ≡ 0x0f → Written (minus (decimal (take 7 eight))) bytes
+  minus-back : allDigits (take 7 (eight a b c d)) ≡ true → at (eight a b c d) 7 ≡ 0x0f → Written (minus (decimal (take 7 (eight a b c d)))) bytes
   minus-back g s =
-      let h : decimal (take 7 eight) < 10 ^ 7 = decimal-lt (take 7 eight) g in
-      let all : digitsOf 7 (decimal (take 7 eight)) (0x0f ∷ []) ≡ eight =
-      digits-of 7 (take 7 eight) (0x0f ∷ []) refl g ∙ ap (λ (n : ℕ). take 7 eight ++ (n ∷ [])) (sym s) in
-      subst (Written (minus (decimal (take 7 eight)))) (ap packed all ∙ packed-back) (signed (decimal (take 7 eight)) h)
+      let h : decimal (take 7 (eight a b c d)) < 10 ^ 7 = decimal-lt (take 7 (eight a b c d)) g in
+      let all : digitsOf 7 (decimal (take 7 (eight a b c d))) (0x0f ∷ []) ≡ (eight a b c d) =
+      digits-of 7 (take 7 (eight a b c d)) (0x0f ∷ []) refl g ∙ ap (λ (n : ℕ). take 7 (eight a b c d) ++ (n ∷ [])) (sym s) in
+      subst (Written (minus (decimal (take 7 (eight a b c d))))) (ap packed all ∙ packed-back) (signed (decimal (take 7 (eight a b c d))) h)
 
   pub reading-back : (v : ℤ) → readingBy (digitsIn bytes) ≡ F.Reading v → Written v bytes
   unfolding readingBy digitsIn
@@ -107,10 +103,10 @@ module _ (a b c d : ℕ) where
       (λ p. subst (λ (z : ℤ). Written z bytes) (same-reading (p .1)) (plain-back (p .0)))
       (λ q.
       ⊎-elim
-      (λ p. subst (λ (z : ℤ). Written z bytes) (same-reading (p .1)) (minus-back (and-left (allDigits (take 7 eight)) (eqb (at eight 7) 0x0f) (p .0)) (eqb-true (at eight 7) 0x0f (and-right (allDigits (take 7 eight)) (eqb (at eight 7) 0x0f) (p .0)))))
+      (λ p. subst (λ (z : ℤ). Written z bytes) (same-reading (p .1)) (minus-back (and-left (allDigits (take 7 (eight a b c d))) (eqb (at (eight a b c d) 7) 0x0f) (p .0)) (eqb-true (at (eight a b c d) 7) 0x0f (and-right (allDigits (take 7 (eight a b c d))) (eqb (at (eight a b c d) 7) 0x0f) (p .0)))))
       (λ p. no-reading (p .1))
-      (reading-by (allDigits (take 7 eight) && eqb (at eight 7) 0x0f) (F.Reading (minus (decimal (take 7 eight)))) F.Nothing (q .1)))
-      (reading-by (allDigits eight) (F.Reading (pos (decimal eight))) _ e)
+      (reading-by (allDigits (take 7 (eight a b c d)) && eqb (at (eight a b c d) 7) 0x0f) (F.Reading (minus (decimal (take 7 (eight a b c d))))) F.Nothing (q .1)))
+      (reading-by (allDigits (eight a b c d)) (F.Reading (pos (decimal (eight a b c d)))) _ e)
 
 pub read-written : (t : List ℕ) (v : ℤ) → 4 ≤ length t → readingOf t ≡ F.Reading v → Written v (take 4 t)
 unfolding readingOf padded
@@ -127,16 +123,12 @@ unfolding Field
 field-cons x [] h f = absurd f
 field-cons x (y ∷ t) h f = (h, f)
 
-field-split : (x : ℕ) (s : List ℕ) (b : Bool) → ltb x 0x80 ≡ b → (fieldLen s ≤ length s → Field (take (fieldLen s) s)) → cond b 1 (suc (fieldLen s)) ≤ length (x ∷ s)
-    → Field (take (cond b 1 (suc (fieldLen s))) (x ∷ s))
-unfolding Field
-field-split x s true e ih h = ltb-true x 0x80 e
-field-split x s false e ih h = field-cons x (take (fieldLen s) s) (ltb-false x 0x80 e) (ih (le-of-suc-le-suc h))
-
 field-taken : (s : List ℕ) → fieldLen s ≤ length s → Field (take (fieldLen s) s)
-unfolding fieldLen
+unfolding fieldLen Field
 field-taken [] h = absurd (not-suc-le-zero h)
-field-taken (x ∷ s) h = field-split x s (ltb x 0x80) refl (field-taken s) h
+field-taken (x ∷ s) h =
+    cond-by (λ n. n ≤ length (x ∷ s) → Field (take n (x ∷ s))) (ltb x 0x80) 1 (suc (fieldLen s)) (λ e _. ltb-true x 0x80 e)
+    (λ e g. field-cons x (take (fieldLen s) s) (ltb-false x 0x80 e) (field-taken s (le-of-suc-le-suc g))) h
 
 -- ---- what the search meets
 
@@ -159,10 +151,6 @@ field-one [] h = refl
 field-one (x ∷ s) h = rw (lt-ltb x 0x80 h)
 
 module _ (unit : ℕ) (s : List ℕ) where
-  view-by : (b : Bool) (x y : Met) → (b ≡ true → View unit s x) → (b ≡ false → View unit s y) → View unit s (cond b x y)
-  view-by true x y f g = f refl
-  view-by false x y f g = g refl
-
   module _ (nf : difOf s ≡ filler → ⊥) (size : ℕ) (sized : dataLen (difOf s) ≡ D.Bytes size) (plain : unusableVif (vifOf s) ≡ false) (whole : recordLen size s ≤ length s) where
     abbrev d : ℕ
     d = fieldLen s
@@ -215,19 +203,19 @@ module _ (unit : ℕ) (s : List ℕ) where
   unfolding lookRecord View
   record-view nf D.Unusable e = tt
   record-view nf (D.Bytes size) e =
-      view-by (unusableVif (vifOf s) || ltb (length s) (recordLen size s)) M.End (cond (wanted unit s) M.Take (M.Pass (recordLen size s))) (λ _. tt)
+      cond-by (View unit s) (unusableVif (vifOf s) || ltb (length s) (recordLen size s)) M.End (cond (wanted unit s) M.Take (M.Pass (recordLen size s))) (λ _. tt)
       (λ o.
       let plain = or-left (unusableVif (vifOf s)) (ltb (length s) (recordLen size s)) o in
       let whole = ltb-false (length s) (recordLen size s) (or-right (unusableVif (vifOf s)) (ltb (length s) (recordLen size s)) o) in
-      view-by (wanted unit s) M.Take (M.Pass (recordLen size s)) (view-take nf size e plain whole) (λ w. inr (view-pass nf size e plain whole w)))
+      cond-by (View unit s) (wanted unit s) M.Take (M.Pass (recordLen size s)) (view-take nf size e plain whole) (λ w. inr (view-pass nf size e plain whole w)))
 
   -- a filler, a whole unwanted record, the wanted one, or the end
   look-view : View unit s (look unit s)
   unfolding look View
   look-view =
-      view-by (eqb (length s) 0) M.End (cond (eqb (difOf s) filler) (M.Pass 1) (lookRecord (dataLen (difOf s)) unit s)) (λ _. tt)
+      cond-by (View unit s) (eqb (length s) 0) M.End (cond (eqb (difOf s) filler) (M.Pass 1) (lookRecord (dataLen (difOf s)) unit s)) (λ _. tt)
       (λ some.
-      view-by (eqb (difOf s) filler) (M.Pass 1) (lookRecord (dataLen (difOf s)) unit s)
+      cond-by (View unit s) (eqb (difOf s) filler) (M.Pass 1) (lookRecord (dataLen (difOf s)) unit s)
       (λ f. inl (places 1 0 s (let h = eqb-false (length s) 0 some in omega arith) ∙ ap (λ (n : ℕ). n ∷ drop 1 s) (eqb-true (difOf s) filler f)))
       (λ f. record-view (eqb-false (difOf s) filler f) (dataLen (difOf s)) refl))
 

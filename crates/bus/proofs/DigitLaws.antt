@@ -15,21 +15,17 @@ use mir.ValLaws.{toZ-ofZ, toZ-pos}
 use borrow.Author.Tests.{le-leb}
 use Rattle.octets.specs.Lists.{at}
 use Rattle.octets.specs.Bytes.{padded}
+use Rattle.octets.proofs.LittleLaws.{from-padded}
 use Rattle.bus.specs.declared.Found.the-variants as F
 use Rattle.bus.specs.Digits.{digitsIn, decimal, allDigits, minus, readingBy, readingOf}
 
 -- ---- four bytes, and their eight digits
 
 pub four : (s : List ℕ) → padded 4 s ≡ at s 0 ∷ at s 1 ∷ at s 2 ∷ at s 3 ∷ []
-unfolding padded
-four [] = refl
-four (a ∷ []) = refl
-four (a ∷ b ∷ []) = refl
-four (a ∷ b ∷ c ∷ []) = refl
-four (a ∷ b ∷ c ∷ d ∷ s) = refl
+four s = sym (from-padded 4 0 s)
 
-abbrev digits : ℕ → ℕ → ℕ → ℕ → List ℕ
-digits a b c d = a % 16 ∷ a / 16 ∷ b % 16 ∷ b / 16 ∷ c % 16 ∷ c / 16 ∷ d % 16 ∷ d / 16 ∷ []
+abbrev pub eight : ℕ → ℕ → ℕ → ℕ → List ℕ
+eight a b c d = a % 16 ∷ a / 16 ∷ b % 16 ∷ b / 16 ∷ c % 16 ∷ c / 16 ∷ d % 16 ∷ d / 16 ∷ []
 
 abbrev pub seven : ℕ → ℕ → ℕ → ℕ → ℕ
 seven a b c d = a % 16 + a / 16 * 10 + (b % 16 + b / 16 * 10) * 100 + (c % 16 + c / 16 * 10) * 10000 + d % 16 * 1000000
@@ -81,7 +77,7 @@ minus-fits n h = subst (SFits w32) (sym (ap (λ (z : ℤ). pos 0 -ℤ z) (toZ-po
 -- ---- the code's steps
 
 module _ (s : List ℕ) {a b c d : ℕ} {p q r : Bool} (ea : a ≡ at s 0) (eb : b ≡ at s 1) (ec : c ≡ at s 2) (ed : d ≡ at s 3) (ep : p ≡ pair a) (eq : q ≡ pair b) (er : r ≡ pair c) where
-  reading-is : readingOf s ≡ readingBy (digits a b c d)
+  reading-is : readingOf s ≡ readingBy (eight a b c d)
   unfolding readingOf digitsIn
   reading-is = ap (λ (l : List ℕ). readingBy (digitsIn l)) (four s) ∙ ap readingBy (sym (ap₂ (λ (f g : List ℕ → List ℕ). f (g [])) x y))
     where
@@ -92,13 +88,13 @@ module _ (s : List ℕ) {a b c d : ℕ} {p q r : Bool} (ea : a ≡ at s 0) (eb :
       y = ap₂ (λ (m n : ℕ). λ (l : List ℕ). m % 16 ∷ m / 16 ∷ n % 16 ∷ n / 16 ∷ l) ec ed
 
   -- the first seven
-  low-is : allDigits (take 7 (digits a b c d)) ≡ p && q && r && leb (d % 16) 9
+  low-is : allDigits (take 7 (eight a b c d)) ≡ p && q && r && leb (d % 16) 9
   unfolding allDigits
   low-is =
       all-seven (leb (a % 16) 9) (leb (a / 16) 9) (leb (b % 16) 9) (leb (b / 16) 9) (leb (c % 16) 9) (leb (c / 16) 9) (leb (d % 16) 9)
       ∙ ap (λ (t : Bool). t && leb (d % 16) 9) (ap₂ _&&_ (ap₂ _&&_ (sym ep) (sym eq)) (sym er))
 
-  all-is : allDigits (digits a b c d) ≡ p && q && r && leb (d % 16) 9 && leb (d / 16) 9
+  all-is : allDigits (eight a b c d) ≡ p && q && r && leb (d % 16) 9 && leb (d / 16) 9
   unfolding allDigits
   all-is =
       and-last (leb (a % 16) 9) (leb (a / 16) 9) (leb (b % 16) 9) (leb (b / 16) 9) (leb (c % 16) 9) (leb (c / 16) 9) (leb (d % 16) 9) (leb (d / 16) 9)
@@ -108,12 +104,12 @@ module _ (s : List ℕ) {a b c d : ℕ} {p q r : Bool} (ea : a ≡ at s 0) (eb :
       → F.Reading (toZ w32 (seven a b c d + d / 16 * 10000000)) ≡ readingOf s
   unfolding readingBy decimal
   reading-plain h e =
-      let n : seven a b c d + d / 16 * 10000000 ≡ decimal (digits a b c d) = omega arith in
+      let n : seven a b c d + d / 16 * 10000000 ≡ decimal (eight a b c d) = omega arith in
       ap F.Reading (toZ-pos w32 (seven a b c d + d / 16 * 10000000) h ∙ ap pos n)
       ∙ sym (reading-is ∙ rw (all-is ∙ e))
 
   module _ (no-plain : p && q && r && leb (d % 16) 9 && leb (d / 16) 9 ≡ false) where
-    behind : readingOf s ≡ cond (allDigits (take 7 (digits a b c d)) && eqb (d / 16) 0x0f) (F.Reading (minus (decimal (take 7 (digits a b c d))))) F.Nothing
+    behind : readingOf s ≡ cond (allDigits (take 7 (eight a b c d)) && eqb (d / 16) 0x0f) (F.Reading (minus (decimal (take 7 (eight a b c d))))) F.Nothing
     unfolding readingBy
     behind = reading-is ∙ rw (all-is ∙ no-plain)
 
@@ -121,7 +117,7 @@ module _ (s : List ℕ) {a b c d : ℕ} {p q r : Bool} (ea : a ≡ at s 0) (eb :
         → F.Reading (toZ w32 (ofZ w32 (pos 0 -ℤ toZ w32 (seven a b c d)))) ≡ readingOf s
     unfolding decimal
     reading-minus h f e =
-        let n : seven a b c d ≡ decimal (take 7 (digits a b c d)) = omega arith in
+        let n : seven a b c d ≡ decimal (take 7 (eight a b c d)) = omega arith in
         ap F.Reading (toZ-ofZ w32 (pos 0 -ℤ toZ w32 (seven a b c d)) f ∙ ap (λ (z : ℤ). pos 0 -ℤ z) (toZ-pos w32 (seven a b c d) h) ∙ minus-is (seven a b c d) ∙ ap minus n)
         ∙ sym (behind ∙ rw (ap (λ (t : Bool). t && eqb (d / 16) 0x0f) low-is ∙ e))
 

@@ -1,4 +1,4 @@
--- A DIF or VIF with its extension bytes, byte after byte; and the sum of bytes.
+-- A test's two sides; a DIF or VIF with its extension bytes, byte after byte; and the sum of bytes.
 -- Assumes nothing.
 use Prim.Native.Nat.{ℕ, zero, suc, _+_, _%_, _<_, _≤_}
 use mathlib.Core.Path.{_≡_, refl, sym, ap, _∙_}
@@ -13,6 +13,12 @@ use borrow.Author.Tests.{lt-ltb, le-ltb}
 use Rattle.octets.specs.Lists.{at}
 use Rattle.bus.specs.Frame.{sum}
 use Rattle.bus.specs.Records.{fieldLen}
+
+-- ---- what holds of both sides of a test
+
+pub cond-by : {A : Type 0} (P : A → Type 0) (b : Bool) (x y : A) → (b ≡ true → P x) → (b ≡ false → P y) → P (cond b x y)
+cond-by P true x y f g = f refl
+cond-by P false x y f g = g refl
 
 -- ---- a field
 
@@ -44,16 +50,12 @@ pub field-past : (s : List ℕ) (i : ℕ) → length s ≤ i → fieldLen (drop 
 unfolding fieldLen
 field-past s i h = ap fieldLen (drop-of-length-le s {i = i} h)
 
-either : (b : Bool) (x y k n : ℕ) → k ≤ x → x ≤ n → k ≤ y → y ≤ n → (k ≤ cond b x y) × (cond b x y ≤ n)
-either true x y k n a b c d = (a, b)
-either false x y k n a b c d = (c, d)
-
 field-bounds : (s : List ℕ) → (1 ≤ fieldLen s) × (fieldLen s ≤ length s + 1)
 unfolding fieldLen
 field-bounds [] = (omega arith, omega arith)
 field-bounds (x ∷ s) =
     let b = field-bounds s .1 in
-    either (ltb x 0x80) 1 (suc (fieldLen s)) 1 (length (x ∷ s) + 1) (omega arith) (omega arith) (omega arith) (omega arith)
+    cond-by (λ n. (1 ≤ n) × (n ≤ length (x ∷ s) + 1)) (ltb x 0x80) 1 (suc (fieldLen s)) (λ _. (omega arith, omega arith)) (λ _. (omega arith, omega arith))
 
 pub field-some : (s : List ℕ) → 1 ≤ fieldLen s
 field-some s = field-bounds s .0

@@ -15,7 +15,7 @@ use Rattle.bus.specs.declared.Met.{Met}
 use Rattle.bus.specs.declared.Met.the-variants as M
 use Rattle.octets.proofs.BoolLaws.{or-right}
 use Rattle.bus.specs.Records.{filler, wantedDif, dataLen, fieldLen, difOf, vifOf, unusableVif, recordLen, wanted, lookRecord, look, dataPlace}
-use Rattle.bus.proofs.FieldLaws.{field-some}
+use Rattle.bus.proofs.FieldLaws.{cond-by, field-some}
 
 or-true : (b : Bool) → b || true ≡ true
 or-true true = refl
@@ -92,25 +92,21 @@ Within s M.Take = dataPlace ≤ length s
 Within s M.End = Unit {0}
 
 module _ (unit : ℕ) (s : List ℕ) where
-  within-by : (b : Bool) (x y : Met) → (b ≡ true → Within s x) → (b ≡ false → Within s y) → Within s (cond b x y)
-  within-by true x y f g = f refl
-  within-by false x y f g = g refl
-
   record-within : (n : DataLen) → Within s (lookRecord n unit s)
   unfolding lookRecord recordLen
   record-within D.Unusable = tt
   record-within (D.Bytes size) =
       let d = field-some s in
       let v = field-some (drop (fieldLen s) s) in
-      within-by (unusableVif (vifOf s) || ltb (length s) (recordLen size s)) M.End _ (λ e. tt)
+      cond-by (Within s) (unusableVif (vifOf s) || ltb (length s) (recordLen size s)) M.End _ (λ e. tt)
       (λ e.
       let h = ltb-false (length s) (recordLen size s) (or-right (unusableVif (vifOf s)) _ e) in
-      within-by (wanted unit s) M.Take (M.Pass (recordLen size s)) (λ t. omega arith) (λ t. (omega arith, h)))
+      cond-by (Within s) (wanted unit s) M.Take (M.Pass (recordLen size s)) (λ t. omega arith) (λ t. (omega arith, h)))
 
   pub look-within : Within s (look unit s)
   unfolding look
   look-within =
-      within-by (eqb (length s) 0) M.End _ (λ e. tt)
+      cond-by (Within s) (eqb (length s) 0) M.End _ (λ e. tt)
       (λ e.
       let some = eqb-false (length s) 0 e in
-      within-by (eqb (difOf s) filler) (M.Pass 1) _ (λ t. (omega arith, omega arith)) (λ t. record-within (dataLen (difOf s))))
+      cond-by (Within s) (eqb (difOf s) filler) (M.Pass 1) _ (λ t. (omega arith, omega arith)) (λ t. record-within (dataLen (difOf s))))

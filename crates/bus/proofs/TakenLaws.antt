@@ -12,6 +12,7 @@ use lib.Signed.{mag}
 use lib.ListN.{length, take, drop}
 use borrow.Author.Tests.{ltb-false, leb-true, leb-false, eqb-false, le-leb, lt-ltb, not-false}
 use Rattle.octets.specs.Lists.{at}
+use Rattle.table.proofs.OrderLaws.{clash}
 use Rattle.octets.proofs.BoolLaws.{and-left, and-right}
 use Rattle.transaction.specs.declared.Write.{Write}
 use Rattle.transaction.specs.Transaction.{meters, minText, legalWrite, legal}
@@ -21,6 +22,7 @@ use Rattle.protocol.specs.declared.Store.the-variants as S
 use Rattle.protocol.specs.Said as protocol
 use Rattle.protocol.specs.Said.{Said, refused, taken, Answered}
 use Rattle.table.specs.Table.{lanes}
+use Rattle.protocol.specs.Sheet.{number}
 use Rattle.protocol.specs.States.{listed, ready}
 use Rattle.protocol.specs.Vaults.{counterMax}
 use Rattle.protocol.specs.Accept.{tooLow, accept}
@@ -34,6 +36,7 @@ use Rattle.bus.specs.Digits.{digitsIn, decimal, allDigits, minus, readin
 use Rattle.bus.specs.Records.{look, follow, firstWithin, firstReading, dataPlace}
 use Rattle.bus.specs.Answer.{Told, turnDown, codeIn, readingIn, heard, fromBus}
 use Rattle.bus.specs.Claim.{OneWriteTo}
+use Rattle.bus.proofs.FieldLaws.{cond-by}
 use Rattle.bus.proofs.DigitLaws.{minus-small, four}
 
 -- ---- a reading has 32 bits
@@ -51,18 +54,14 @@ decimal-lt (d ∷ ds) e =
     let ih = decimal-lt ds (and-right (leb d 9) (allDigits ds) e) in
     omega arith
 
-small-by : (b : Bool) (x y : Found) → (b ≡ true → Small x) → (b ≡ false → Small y) → Small (cond b x y)
-small-by true x y f g = f refl
-small-by false x y f g = g refl
-
 -- of at most eight digits
 by-small : (ds : List ℕ) → length ds ≡ 8 → length (take 7 ds) ≡ 7 → Small (readingBy ds)
 unfolding readingBy
 by-small ds e g =
-    small-by (allDigits ds) (F.Reading (pos (decimal ds))) (cond (allDigits (take 7 ds) && eqb (at ds 7) 0x0f) (F.Reading (minus (decimal (take 7 ds)))) F.Nothing)
+    cond-by Small (allDigits ds) (F.Reading (pos (decimal ds))) (cond (allDigits (take 7 ds) && eqb (at ds 7) 0x0f) (F.Reading (minus (decimal (take 7 ds)))) F.Nothing)
     (λ t. let h : decimal ds < 10 ^ 8 = subst (λ (n : ℕ). decimal ds < 10 ^ n) e (decimal-lt ds t) in omega arith)
     (λ _.
-    small-by (allDigits (take 7 ds) && eqb (at ds 7) 0x0f) (F.Reading (minus (decimal (take 7 ds)))) F.Nothing
+    cond-by Small (allDigits (take 7 ds) && eqb (at ds 7) 0x0f) (F.Reading (minus (decimal (take 7 ds)))) F.Nothing
     (λ t. let h : decimal (take 7 ds) < 10 ^ 7 = subst (λ (n : ℕ). decimal (take 7 ds) < 10 ^ n) g (decimal-lt (take 7 ds) (and-left (allDigits (take 7 ds)) (eqb (at ds 7) 0x0f) t)) in minus-small (decimal (take 7 ds)) (omega arith))
     (λ _. tt))
 
@@ -92,14 +91,14 @@ within-small (suc n) unit s =
 
 code-few : (m : ℕ) → codeOf m ≤ 4
 unfolding codeOf
-code-few m = few (eqb m 0x07 || eqb m 0x16) (lit≤ tt) (few (eqb m 0x06 || eqb m 0x15) (lit≤ tt) (few (eqb m 0x04 || eqb m 0x0c) (lit≤ tt) (few (eqb m 0x0a || eqb m 0x0b) (lit≤ tt) (lit≤ tt))))
-  where
-    few : (b : Bool) {x y : ℕ} → x ≤ 4 → y ≤ 4 → cond b x y ≤ 4
-    few true h g = h
-    few false h g = g
+code-few m =
+    cond-by (λ n. n ≤ 4) (eqb m 0x07 || eqb m 0x16) 1 _ (λ _. lit≤ tt)
+    (λ _. cond-by (λ n. n ≤ 4) (eqb m 0x06 || eqb m 0x15) 2 _ (λ _. lit≤ tt)
+    (λ _. cond-by (λ n. n ≤ 4) (eqb m 0x04 || eqb m 0x0c) 3 _ (λ _. lit≤ tt)
+    (λ _. cond-by (λ n. n ≤ 4) (eqb m 0x0a || eqb m 0x0b) 4 0 (λ _. lit≤ tt) (λ _. lit≤ tt))))
 
 -- a reading has been found, of a code that there is
-Coded : ℕ → Found → Type 0
+abbrev Coded : ℕ → Found → Type 0
 Coded code (F.Reading z) = (1 ≤ code) × (mag z < 2 ^ 31)
 Coded code F.Nothing = Unit {0}
 
@@ -108,16 +107,11 @@ unfolding Coded
 coded-by code (F.Reading z) n s = (omega (arith, n), s)
 coded-by code F.Nothing n s = tt
 
-coded-cond : (code : ℕ) (b : Bool) (r : Found) → eqb code 0 ≡ b → Small r → Coded code (cond b F.Nothing r)
-unfolding Coded
-coded-cond code true r e s = tt
-coded-cond code false r e s = coded-by code r (eqb-false code 0 e) s
-
 reading-coded : (code : ℕ) (f : List ℕ) → Coded code (readingIn code f)
 unfolding readingIn firstReading
 reading-coded code f =
     let l = drop leastL (bytesIn f) in
-    coded-cond code (eqb code 0) (firstReading (unitOf code) l) refl (within-small (length l) (unitOf code) l)
+    cond-by (Coded code) (eqb code 0) F.Nothing (firstReading (unitOf code) l) (λ _. tt) (λ e. coded-by code (firstReading (unitOf code) l) (eqb-false code 0 e) (within-small (length l) (unitOf code) l))
 
 -- ---- what is taken
 
@@ -127,7 +121,7 @@ isTaken (taken st n) = true
 
 pub not-taken : {X : Type 0} (n : ℕ) (vs : List ℕ) → refused n vs ≡ taken S.Nothing minText → X
 unfolding isTaken
-not-taken n vs e = let z : false ≡ true = ap isTaken e in let w : _≡_ {A = ℕ} 0 1 = cc in absurd (omega arith)
+not-taken n vs e = clash (sym (ap isTaken e))
 
 -- what is turned down is not taken
 abbrev Where-taken : (Told → Type 0) → Told → Type 0
@@ -179,21 +173,17 @@ taken-one f meter stamp room l =
 
 -- ---- Accept says 4 to what is not in its layout, and to nothing else
 
-numberIn : Said → ℕ
-numberIn (refused n vs) = n
-numberIn (taken st n) = 0
-
 not-four : (b : Bool) (c : State) (n : ℕ) (vs : List ℕ) (other : Answered) → (n ≡ 4 → ⊥) → (other .said ≡ refused 4 [] → ⊥) → protocol.refuse b c n vs other .said ≡ refused 4 [] → ⊥
-unfolding protocol.refuse numberIn
-not-four true c n vs other h g e = h (ap numberIn e)
+unfolding protocol.refuse number
+not-four true c n vs other h g e = h (ap number e)
 not-four false c n vs other h g e = g e
 
 pub accept-not-four : (c : State) (t : List ℕ) (lane position : ℕ) → legal t ≡ true → accept c t lane position .said ≡ refused 4 [] → ⊥
-unfolding accept protocol.refuse numberIn
+unfolding accept protocol.refuse number
 accept-not-four c t lane position e =
     rw e
     (not-four (not (ready c)) c 1 [] _ (λ n. omega (arith, n))
     (not-four (leb lanes lane) c 5 [] _ (λ n. omega (arith, n))
     (not-four (tooLow (c .points) (c .journal) position) c 6 [] _ (λ n. omega (arith, n))
     (not-four (leb listed (c .journal .count)) c 7 [] _ (λ n. omega (arith, n))
-    (not-four (leb counterMax (at (c .vault .w) lane)) c 8 [] _ (λ n. omega (arith, n)) (λ q. let z : _≡_ {A = ℕ} 0 4 = ap numberIn q in omega (arith, z)))))))
+    (not-four (leb counterMax (at (c .vault .w) lane)) c 8 [] _ (λ n. omega (arith, n)) (λ q. let z : _≡_ {A = ℕ} 0 4 = ap number q in omega (arith, z)))))))

@@ -2,7 +2,7 @@
 -- Assumes nothing.
 use Prim.Native.Nat.{ℕ, _+_, _<_, _≤_}
 use mathlib.Core.Path.{_≡_, refl, sym, ap, ap₂, _∙_}
-use mathlib.Core.Bool.{Bool, true, false, cond, _&&_}
+use mathlib.Core.Bool.{true, _&&_}
 use mathlib.Core.Logic.{⊎-elim}
 use mathlib.Core.List.{List, [], _∷_, _++_}
 use native.Mathlib.Omega.{arith}
@@ -23,6 +23,7 @@ use Rattle.bus.specs.Medium.{litres, kilowattHours, codeOf, unitOf}
 use Rattle.bus.specs.Records.{wantedDif, firstReading}
 use Rattle.bus.specs.Answer.{Told, saidBy, codeIn, readingIn, heard, fromBus}
 use Rattle.bus.specs.Claim.{Built, TakenAs, TakenReply, BusClaim}
+use Rattle.bus.proofs.FieldLaws.{cond-by}
 use Rattle.bus.proofs.FrameLaws.{places, reply-long, unbroken-facts, unbroken-built, framed-unbroken, bytes-framed}
 use Rattle.bus.proofs.BuiltLaws.{every-number, filler-passes, unwanted-passes, before-passes, wanted-taken}
 use Rattle.bus.proofs.AnswerLaws.{written, answer-taken}
@@ -31,11 +32,7 @@ use Rattle.bus.proofs.ApartLaws.{no-reading, reading-by, sought}
 
 unit-small : (code : ℕ) → unitOf code < 0x7c
 unfolding unitOf
-unit-small code = by (leb code 2)
-  where
-    by : (b : Bool) → cond b litres kilowattHours < 0x7c
-    by true = lit< tt
-    by false = lit< tt
+unit-small code = cond-by (λ n. n < 0x7c) (leb code 2) litres kilowattHours (λ _. lit< tt) (λ _. lit< tt)
 
 -- ---- a reply that is built
 

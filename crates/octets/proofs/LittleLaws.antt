@@ -66,7 +66,7 @@ bytes-little-padded k s h =
 
 -- ---- a number as it is read, byte after byte
 
-from-padded : (k i : ℕ) (s : List ℕ) → from i k (at s) ≡ padded k (drop i s)
+pub from-padded : (k i : ℕ) (s : List ℕ) → from i k (at s) ≡ padded k (drop i s)
 unfolding padded
 from-padded zero i s = refl
 from-padded (suc k) i s = ap (λ (t : List ℕ). getD s i 0 ∷ t) (from-padded k (suc i) s ∙ ap (λ (n : ℕ). padded k (drop n s)) (sym (add-one i))) ∙ sym (padded-from k i s)
