@@ -15,13 +15,14 @@ use Rattle.octets.specs.Lists.{at}
 use Rattle.table.proofs.OrderLaws.{clash}
 use Rattle.octets.proofs.BoolLaws.{and-left, and-right}
 use Rattle.transaction.specs.declared.Write.{Write}
-use Rattle.transaction.specs.Transaction.{meters, minText, legalWrite, legal}
+use Rattle.transaction.specs.Transaction.{meters, codes, minText, legalWrite, legal}
 use Rattle.transaction.proofs.WrittenLaws.{one-write-count, one-write-stamp, one-write-back, one-write-legal}
 use Rattle.protocol.specs.declared.State.{State}
 use Rattle.protocol.specs.declared.Store.the-variants as S
 use Rattle.protocol.specs.Said as protocol
 use Rattle.protocol.specs.Said.{Said, refused, taken, Answered}
 use Rattle.table.specs.Table.{lanes}
+use Rattle.protocol.specs.History.{isTaken}
 use Rattle.protocol.specs.Sheet.{number}
 use Rattle.protocol.specs.States.{listed, ready}
 use Rattle.protocol.specs.Vaults.{counterMax}
@@ -89,13 +90,13 @@ within-small (suc n) unit s =
 
 -- ---- and a code that is one of the four
 
-code-few : (m : ℕ) → codeOf m ≤ 4
+code-few : (m : ℕ) → codeOf m ≤ codes
 unfolding codeOf
 code-few m =
-    cond-by (λ n. n ≤ 4) (eqb m 0x07 || eqb m 0x16) 1 _ (λ _. lit≤ tt)
-    (λ _. cond-by (λ n. n ≤ 4) (eqb m 0x06 || eqb m 0x15) 2 _ (λ _. lit≤ tt)
-    (λ _. cond-by (λ n. n ≤ 4) (eqb m 0x04 || eqb m 0x0c) 3 _ (λ _. lit≤ tt)
-    (λ _. cond-by (λ n. n ≤ 4) (eqb m 0x0a || eqb m 0x0b) 4 0 (λ _. lit≤ tt) (λ _. lit≤ tt))))
+    cond-by (λ n. n ≤ codes) (eqb m 0x07 || eqb m 0x16) 1 _ (λ _. lit≤ tt)
+    (λ _. cond-by (λ n. n ≤ codes) (eqb m 0x06 || eqb m 0x15) 2 _ (λ _. lit≤ tt)
+    (λ _. cond-by (λ n. n ≤ codes) (eqb m 0x04 || eqb m 0x0c) 3 _ (λ _. lit≤ tt)
+    (λ _. cond-by (λ n. n ≤ codes) (eqb m 0x0a || eqb m 0x0b) 4 0 (λ _. lit≤ tt) (λ _. lit≤ tt))))
 
 -- a reading has been found, of a code that there is
 abbrev Coded : ℕ → Found → Type 0
@@ -115,26 +116,22 @@ reading-coded code f =
 
 -- ---- what is taken
 
-isTaken : Said → Bool
-isTaken (refused n vs) = false
-isTaken (taken st n) = true
-
 pub not-taken : {X : Type 0} (n : ℕ) (vs : List ℕ) → refused n vs ≡ taken S.Nothing minText → X
 unfolding isTaken
 not-taken n vs e = clash (sym (ap isTaken e))
 
 -- what is turned down is not taken
-abbrev Where-taken : (Told → Type 0) → Told → Type 0
-Where-taken P a = a .said ≡ taken S.Nothing minText → P a
+abbrev WhereTaken : (Told → Type 0) → Told → Type 0
+WhereTaken P a = a .said ≡ taken S.Nothing minText → P a
 
-behind : (P : Told → Type 0) (b : Bool) (n : ℕ) (vs : List ℕ) (other : Told) → (b ≡ false → Where-taken P other) → Where-taken P (turnDown b n vs other)
+behind : (P : Told → Type 0) (b : Bool) (n : ℕ) (vs : List ℕ) (other : Told) → (b ≡ false → WhereTaken P other) → WhereTaken P (turnDown b n vs other)
 unfolding turnDown
 behind P true n vs other h e = not-taken n vs e
 behind P false n vs other h e = h refl e
 
 -- so something holds of what is taken, if it holds of what is heard, of a meter that there is and an unbroken frame
-pub of-taken : (P : Told → Type 0) (f : List ℕ) (meter stamp room : ℕ) → (minText ≤ room → meter < meters → unbroken f ≡ true → Where-taken P (heard meter stamp (codeIn f) (readingIn (codeIn f) f)))
-    → Where-taken P (fromBus f meter stamp room)
+pub of-taken : (P : Told → Type 0) (f : List ℕ) (meter stamp room : ℕ) → (minText ≤ room → meter < meters → unbroken f ≡ true → WhereTaken P (heard meter stamp (codeIn f) (readingIn (codeIn f) f)))
+    → WhereTaken P (fromBus f meter stamp room)
 unfolding fromBus
 of-taken P f meter stamp room h =
     behind P (ltb room minText) 3 (minText ∷ []) _
@@ -147,11 +144,11 @@ abbrev Fine : ℕ → ℕ → Told → Type 0
 Fine meter stamp a = OneWriteTo meter stamp (a .put)
 
 module _ (meter stamp : ℕ) (m : meter < meters) (l : stamp < 2 ^ 64) where
-  write-legal : (code : ℕ) (z : ℤ) → 1 ≤ code → code ≤ 4 → legalWrite (record { meter = meter; code = code; spare = 0; reading = z }) 0 ≡ true
+  write-legal : (code : ℕ) (z : ℤ) → 1 ≤ code → code ≤ codes → legalWrite (record { meter = meter; code = code; spare = 0; reading = z }) 0 ≡ true
   unfolding legalWrite
-  write-legal code z a b = rw (le-leb 0 meter (omega arith), lt-ltb meter meters m, le-leb 1 code a, le-leb code 4 b)
+  write-legal code z a b = rw (le-leb 0 meter (omega arith), lt-ltb meter meters m, le-leb 1 code a, le-leb code codes b)
 
-  heard-fine : (code : ℕ) (r : Found) → code ≤ 4 → Coded code r → Where-taken (Fine meter stamp) (heard meter stamp code r)
+  heard-fine : (code : ℕ) (r : Found) → code ≤ codes → Coded code r → WhereTaken (Fine meter stamp) (heard meter stamp code r)
   unfolding heard Coded
   heard-fine code (F.Reading z) few c e =
       let w : Write = record { meter = meter; code = code; spare = 0; reading = z } in
