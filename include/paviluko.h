@@ -271,11 +271,11 @@ typedef struct {
 } paviluko_state;
 
 /* What a call says. Taken: number is 0, store is the one to carry out with lane and value, and len is how many bytes stand at
- * the start of out. Turned down: number is 1 to 15, value is what is returned with it, and the rest is 0. */
+ * the start of out. Turned down: number is 1 to 17, value is what is returned with it, and the rest is 0. */
 typedef struct {
     uint64_t value;
     uint64_t len;
-    uint8_t number;  /* 0, or PAVILUKO_REFUSED_CONDITION .. PAVILUKO_REFUSED_UNSEEN */
+    uint8_t number;  /* 0, or PAVILUKO_REFUSED_CONDITION .. PAVILUKO_REFUSED_NO_READING */
     uint8_t store;   /* PAVILUKO_STORE_ */
     uint8_t lane;
 } paviluko_said;
