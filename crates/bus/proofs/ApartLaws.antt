@@ -11,7 +11,7 @@ use lib.Dec.{leb, ltb, eqb}
 use lib.IntN.{ℤ, pos, negsuc}
 use lib.ListN.{length, take, drop, length-drop, take-append-drop}
 use lib.Seq.{getD-take, getD-drop, take-add, length-take-le}
-use borrow.Author.Tests.{leb-true, ltb-true, ltb-false, eqb-true, eqb-false, lt-ltb, eq-eqb}
+use borrow.Author.Tests.{leb-true, ltb-true, ltb-false, eqb-true, eqb-false, eq-eqb}
 use Rattle.octets.specs.Lists.{at}
 use Rattle.octets.specs.Bytes.{padded}
 use Rattle.octets.proofs.BoolLaws.{and-left, and-right, or-left, or-right}
@@ -26,7 +26,8 @@ use Rattle.bus.specs.declared.Found.the-variants as F
 use Rattle.bus.specs.Digits.{digitsIn, decimal, allDigits, minus, readingBy, readingOf}
 use Rattle.bus.specs.Records.{filler, wantedDif, dataLen, fieldLen, difOf, vifOf, unusableVif, recordLen, wanted, lookRecord, look, follow, firstWithin, firstReading, dataPlace}
 use Rattle.bus.specs.Claim.{digitsOf, packed, bcd, EightDigits, Written, digits, minusZero, Field, Unwanted, Before, nothing, fillerThen, recordThen}
-use Rattle.bus.proofs.FieldLaws.{cond-by, field-some}
+use Rattle.bus.proofs.MediumLaws.{wanted-size}
+use Rattle.bus.proofs.FieldLaws.{cond-by, field-end, field-some}
 use Rattle.bus.proofs.FrameLaws.{places}
 use Rattle.bus.proofs.DigitLaws.{eight}
 use Rattle.bus.proofs.TakenLaws.{decimal-lt}
@@ -75,26 +76,29 @@ module _ (a b c d : ℕ) where
   abbrev bytes : List ℕ
   bytes = a ∷ b ∷ c ∷ d ∷ []
 
-  packed-back : packed (eight a b c d) ≡ bytes
+  abbrev ds : List ℕ
+  ds = eight a b c d
+
+  packed-back : packed ds ≡ bytes
   unfolding packed
   packed-back =
       let e : (n : ℕ) → n % 16 + 16 * (n / 16) ≡ n = λ n. omega arith in
       λ i. e a i ∷ e b i ∷ e c i ∷ e d i ∷ []
 
-  -- (eight a b c d) digits
-  plain-back : allDigits (eight a b c d) ≡ true → Written (pos (decimal (eight a b c d))) bytes
+  -- eight digits
+  plain-back : allDigits ds ≡ true → Written (pos (decimal ds)) bytes
   unfolding bcd EightDigits
   plain-back g =
-      let h : decimal (eight a b c d) < 10 ^ 8 = decimal-lt (eight a b c d) g in
-      subst (Written (pos (decimal (eight a b c d)))) (ap packed (digits-of 8 (eight a b c d) [] refl g) ∙ packed-back) (digits (pos (decimal (eight a b c d))) (omega arith))
+      let h : decimal ds < 10 ^ 8 = decimal-lt ds g in
+      subst (Written (pos (decimal ds))) (ap packed (digits-of 8 ds [] refl g) ∙ packed-back) (digits (pos (decimal ds)) (omega arith))
 
   -- seven under a sign
-  minus-back : allDigits (take 7 (eight a b c d)) ≡ true → at (eight a b c d) 7 ≡ 0x0f → Written (minus (decimal (take 7 (eight a b c d)))) bytes
+  minus-back : allDigits (take 7 ds) ≡ true → at ds 7 ≡ 0x0f → Written (minus (decimal (take 7 ds))) bytes
   minus-back g s =
-      let h : decimal (take 7 (eight a b c d)) < 10 ^ 7 = decimal-lt (take 7 (eight a b c d)) g in
-      let all : digitsOf 7 (decimal (take 7 (eight a b c d))) (0x0f ∷ []) ≡ (eight a b c d) =
-      digits-of 7 (take 7 (eight a b c d)) (0x0f ∷ []) refl g ∙ ap (λ (n : ℕ). take 7 (eight a b c d) ++ (n ∷ [])) (sym s) in
-      subst (Written (minus (decimal (take 7 (eight a b c d))))) (ap packed all ∙ packed-back) (signed (decimal (take 7 (eight a b c d))) h)
+      let h : decimal (take 7 ds) < 10 ^ 7 = decimal-lt (take 7 ds) g in
+      let all : digitsOf 7 (decimal (take 7 ds)) (0x0f ∷ []) ≡ ds =
+      digits-of 7 (take 7 ds) (0x0f ∷ []) refl g ∙ ap (λ (n : ℕ). take 7 ds ++ (n ∷ [])) (sym s) in
+      subst (Written (minus (decimal (take 7 ds)))) (ap packed all ∙ packed-back) (signed (decimal (take 7 ds)) h)
 
   pub reading-back : (v : ℤ) → readingBy (digitsIn bytes) ≡ F.Reading v → Written v bytes
   unfolding readingBy digitsIn
@@ -103,10 +107,10 @@ module _ (a b c d : ℕ) where
       (λ p. subst (λ (z : ℤ). Written z bytes) (same-reading (p .1)) (plain-back (p .0)))
       (λ q.
       ⊎-elim
-      (λ p. subst (λ (z : ℤ). Written z bytes) (same-reading (p .1)) (minus-back (and-left (allDigits (take 7 (eight a b c d))) (eqb (at (eight a b c d) 7) 0x0f) (p .0)) (eqb-true (at (eight a b c d) 7) 0x0f (and-right (allDigits (take 7 (eight a b c d))) (eqb (at (eight a b c d) 7) 0x0f) (p .0)))))
+      (λ p. subst (λ (z : ℤ). Written z bytes) (same-reading (p .1)) (minus-back (and-left (allDigits (take 7 ds)) (eqb (at ds 7) 0x0f) (p .0)) (eqb-true (at ds 7) 0x0f (and-right (allDigits (take 7 ds)) (eqb (at ds 7) 0x0f) (p .0)))))
       (λ p. no-reading (p .1))
-      (reading-by (allDigits (take 7 (eight a b c d)) && eqb (at (eight a b c d) 7) 0x0f) (F.Reading (minus (decimal (take 7 (eight a b c d))))) F.Nothing (q .1)))
-      (reading-by (allDigits (eight a b c d)) (F.Reading (pos (decimal (eight a b c d)))) _ e)
+      (reading-by (allDigits (take 7 ds) && eqb (at ds 7) 0x0f) (F.Reading (minus (decimal (take 7 ds)))) F.Nothing (q .1)))
+      (reading-by (allDigits ds) (F.Reading (pos (decimal ds))) _ e)
 
 pub read-written : (t : List ℕ) (v : ℤ) → 4 ≤ length t → readingOf t ≡ F.Reading v → Written v (take 4 t)
 unfolding readingOf padded
@@ -141,15 +145,6 @@ abbrev sizeIn : DataLen → ℕ
 sizeIn (D.Bytes n) = n
 sizeIn D.Unusable = 0
 
-wanted-size : dataLen wantedDif ≡ D.Bytes 4
-unfolding dataLen
-wanted-size = refl
-
-field-one : (s : List ℕ) → at s 0 < 0x80 → fieldLen s ≡ 1
-unfolding fieldLen
-field-one [] h = refl
-field-one (x ∷ s) h = rw (lt-ltb x 0x80 h)
-
 module _ (unit : ℕ) (s : List ℕ) where
   module _ (nf : difOf s ≡ filler → ⊥) (size : ℕ) (sized : dataLen (difOf s) ≡ D.Bytes size) (plain : unusableVif (vifOf s) ≡ false) (whole : recordLen size s ≤ length s) where
     abbrev d : ℕ
@@ -170,7 +165,7 @@ module _ (unit : ℕ) (s : List ℕ) where
         let p3 = parts .2 in
         let dif = eqb-true (difOf s) wantedDif (and-left (eqb (difOf s) wantedDif) (eqb (vifOf s) unit) e) in
         let vif = eqb-true (vifOf s) unit (and-right (eqb (difOf s) wantedDif) (eqb (vifOf s) unit) e) in
-        let one = field-one s (omega (arith, dif)) in
+        let one : fieldLen s ≡ 1 = field-end s 0 (omega arith) (omega (arith, dif)) in
         let four : 4 ≡ size = ap sizeIn (sym wanted-size ∙ ap dataLen (sym dif) ∙ sized) in
         (omega arith, (dif, ap (at s) (sym one) ∙ vif))
 

@@ -10,7 +10,7 @@ use lib.Dec.{eqb}
 use lib.IntN.{ℤ, pos, negsuc}
 use lib.ListN.{length, take, drop, length-append}
 use lib.Seq.{drop-append-seam, getD-append-add, drop-at}
-use borrow.Author.Tests.{lt-ltb, le-ltb, le-leb, eq-eqb, ne-eqb, eqb-true}
+use borrow.Author.Tests.{le-leb, eq-eqb, ne-eqb, eqb-true}
 use Rattle.octets.specs.Lists.{at}
 use Rattle.octets.specs.Bytes.{padded}
 use Rattle.bus.specs.declared.DataLen.the-variants as D
@@ -18,6 +18,8 @@ use Rattle.bus.specs.declared.Found.the-variants as F
 use Rattle.bus.specs.Digits.{digitsIn, decimal, allDigits, minus, readingBy, readingOf}
 use Rattle.bus.specs.Records.{filler, wantedDif, dataLen, fieldLen, difOf, vifOf, unusableVif, recordLen, wanted, firstReading}
 use Rattle.bus.specs.Claim.{digitsOf, packed, bcd, EightDigits, Written, digits, minusZero, Field, Unwanted, Before, nothing, fillerThen, recordThen}
+use Rattle.bus.proofs.MediumLaws.{wanted-size}
+use Rattle.bus.proofs.FieldLaws.{field-here, field-on}
 use Rattle.bus.proofs.LookLaws.{look-filler, look-take, look-pass}
 use Rattle.bus.proofs.SearchLaws.{search-pass, search-take}
 
@@ -101,20 +103,20 @@ length-written v b minusZero = refl
 -- ---- fields
 
 field-length : (d s : List ℕ) → Field d → fieldLen (d ++ s) ≡ length d
-unfolding Field fieldLen
+unfolding Field
 field-length [] s f = absurd f
-field-length (x ∷ []) s f = rw (lt-ltb x 0x80 f)
-field-length (x ∷ (y ∷ d)) s f = rw (le-ltb x 0x80 (f .0)) (ap suc (field-length (y ∷ d) s (f .1)))
+field-length (x ∷ []) s f = field-here x s f
+field-length (x ∷ (y ∷ d)) s f = field-on x (y ∷ (d ++ s)) (f .0) ∙ ap suc (field-length (y ∷ d) s (f .1))
 
 field-first : (d s : List ℕ) → Field d → at (d ++ s) 0 ≡ at d 0
 unfolding Field
 field-first [] s f = absurd f
 field-first (x ∷ d) s f = refl
 
-field-some : (d : List ℕ) → Field d → 1 ≤ length d
+field-nonempty : (d : List ℕ) → Field d → 1 ≤ length d
 unfolding Field
-field-some [] f = absurd f
-field-some (x ∷ d) f = omega arith
+field-nonempty [] f = absurd f
+field-nonempty (x ∷ d) f = omega arith
 
 -- ---- a whole unwanted record
 
@@ -164,7 +166,7 @@ module _ (unit : ℕ) (d v x s : List ℕ) (fd : Field d) (fv : Field v) (nf : a
 
   pub passes : firstReading unit whole ≡ firstReading unit s
   passes =
-      let h = field-some d fd in
+      let h = field-nonempty d fd in
       search-pass unit whole
       (look-pass unit whole (λ e. omega (arith, long-is)) (λ e. nf (sym dif-is ∙ e)) (length x) (ap dataLen dif-is ∙ sz) (ap unusableVif vif-is ∙ pl) (omega (arith, len-is, long-is)) not-wanted)
       ∙ ap (firstReading unit) (ap₂ drop len-is parted ∙ drop-at (d ++ (v ++ x)) s (length d + length v + length x) record-long)
@@ -190,8 +192,7 @@ module _ (unit : ℕ) (l : unit < 0x7c) (content rest : List ℕ) where
   here = wantedDif ∷ unit ∷ (content ++ rest)
 
   here-fields : (fieldLen here ≡ 1) × (fieldLen (unit ∷ (content ++ rest)) ≡ 1)
-  unfolding fieldLen
-  here-fields = (refl, rw (lt-ltb unit 0x80 (omega arith)))
+  here-fields = (field-here wantedDif (unit ∷ (content ++ rest)) (omega arith), field-here unit (content ++ rest) (omega arith))
 
   here-len : recordLen 4 here ≡ 6
   unfolding recordLen
@@ -208,12 +209,8 @@ module _ (unit : ℕ) (l : unit < 0x7c) (content rest : List ℕ) where
   unfolding wanted
   here-wanted = rw here-vif (eq-eqb unit unit refl)
 
-  here-sized : dataLen wantedDif ≡ D.Bytes 4
-  unfolding dataLen
-  here-sized = refl
-
   pub wanted-taken : (v : ℤ) → Written v content → firstReading unit here ≡ F.Reading v
   wanted-taken v w =
       let a = length-append content rest in
       let b = length-written v content w in
-      search-take unit here (look-take unit here (λ e. omega arith) (λ e. omega arith) 4 here-sized here-plain (omega (arith, here-len)) here-wanted) ∙ written-read v content rest w
+      search-take unit here (look-take unit here (λ e. omega arith) (λ e. omega arith) 4 wanted-size here-plain (omega (arith, here-len)) here-wanted) ∙ written-read v content rest w

@@ -15,6 +15,7 @@ use mir.ValLaws.{toZ-ofZ, toZ-pos}
 use borrow.Author.Tests.{le-leb}
 use Rattle.octets.specs.Lists.{at}
 use Rattle.octets.specs.Bytes.{padded}
+use Rattle.octets.proofs.BoolLaws.{and-assoc, and-true}
 use Rattle.octets.proofs.LittleLaws.{from-padded}
 use Rattle.bus.specs.declared.Found.the-variants as F
 use Rattle.bus.specs.Digits.{digitsIn, decimal, allDigits, minus, readingBy, readingOf}
@@ -36,27 +37,12 @@ pair b = leb (b % 16) 9 && leb (b / 16) 9
 -- ---- tests one after the other
 
 all-seven : (p1 p2 p3 p4 p5 p6 p7 : Bool) → p1 && (p2 && (p3 && (p4 && (p5 && (p6 && (p7 && true)))))) ≡ (p1 && p2) && (p3 && p4) && (p5 && p6) && p7
-all-seven false p2 p3 p4 p5 p6 p7 = refl
-all-seven true false p3 p4 p5 p6 p7 = refl
-all-seven true true false p4 p5 p6 p7 = refl
-all-seven true true true false p5 p6 p7 = refl
-all-seven true true true true false p6 p7 = refl
-all-seven true true true true true false p7 = refl
-all-seven true true true true true true false = refl
-all-seven true true true true true true true = refl
+all-seven p1 p2 p3 p4 p5 p6 p7 = simp (and-assoc, and-true) refl
 
 -- the eighth behind the others
 and-last : (p1 p2 p3 p4 p5 p6 p7 q : Bool)
     → p1 && (p2 && (p3 && (p4 && (p5 && (p6 && (p7 && (q && true))))))) ≡ (p1 && (p2 && (p3 && (p4 && (p5 && (p6 && (p7 && true))))))) && q
-and-last false p2 p3 p4 p5 p6 p7 q = refl
-and-last true false p3 p4 p5 p6 p7 q = refl
-and-last true true false p4 p5 p6 p7 q = refl
-and-last true true true false p5 p6 p7 q = refl
-and-last true true true true false p6 p7 q = refl
-and-last true true true true true false p7 q = refl
-and-last true true true true true true false q = refl
-and-last true true true true true true true false = refl
-and-last true true true true true true true true = refl
+and-last p1 p2 p3 p4 p5 p6 p7 q = simp (and-assoc, and-true) refl
 
 -- ---- a minus
 

@@ -22,11 +22,11 @@ cond-by P false x y f g = g refl
 
 -- ---- a field
 
-field-here : (x : ℕ) (s : List ℕ) → x < 0x80 → fieldLen (x ∷ s) ≡ 1
+pub field-here : (x : ℕ) (s : List ℕ) → x < 0x80 → fieldLen (x ∷ s) ≡ 1
 unfolding fieldLen
 field-here x s h = rw (lt-ltb x 0x80 h)
 
-field-on : (x : ℕ) (s : List ℕ) → 0x80 ≤ x → fieldLen (x ∷ s) ≡ suc (fieldLen s)
+pub field-on : (x : ℕ) (s : List ℕ) → 0x80 ≤ x → fieldLen (x ∷ s) ≡ suc (fieldLen s)
 unfolding fieldLen
 field-on x s h = rw (le-ltb x 0x80 h)
 

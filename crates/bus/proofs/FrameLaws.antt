@@ -100,15 +100,18 @@ unbroken-facts f e =
       reply = and-right (t1 && t2 && t3 && t4 && t5 && t6) (isReply (bytesIn f)) e;
     }
 
-pub reply-long : (b : List ℕ) → isReply b ≡ true → leastL ≤ length b
+pub reply-facts : (b : List ℕ) → isReply b ≡ true → (leastL ≤ length b) × (replyC (at b 0) ≡ true) × (at b 2 ≡ replyCi)
 unfolding isReply
-reply-long b e = leb-true leastL (length b) (and-left (leb leastL (length b)) (replyC (at b 0)) (and-left (leb leastL (length b) && replyC (at b 0)) (eqb (at b 2) replyCi) e))
+reply-facts b e =
+    let long = leb leastL (length b) in
+    let p = and-left (long && replyC (at b 0)) (eqb (at b 2) replyCi) e in
+    (leb-true leastL (length b) (and-left long (replyC (at b 0)) p), and-right long (replyC (at b 0)) p, eqb-true (at b 2) replyCi (and-right (long && replyC (at b 0)) (eqb (at b 2) replyCi) e))
 
 pub unbroken-least : (f : List ℕ) → unbroken f ≡ true → (length f ≡ openLen + lenIn f + closeLen) × (leastL ≤ lenIn f)
 unbroken-least f e =
     let u = unbroken-facts f e in
     let l = bytes-long f (u .long) in
-    let r = reply-long (bytesIn f) (u .reply) in
+    let r = reply-facts (bytesIn f) (u .reply) .0 in
     (u .long, omega arith)
 
 -- ---- it is built around its L bytes

@@ -1,7 +1,7 @@
 -- The arms of the two matches: a medium's code, and a DIF's data length.
 -- Assumes nothing.
 use Prim.Native.Nat.{ℕ, zero, suc, _%_, _<_, _≤_}
-use mathlib.Core.Path.{_≡_, sym, ap, subst}
+use mathlib.Core.Path.{_≡_, refl, sym, ap, subst}
 use mathlib.Core.List.{List, [], _∷_}
 use mathlib.Core.Logic.{_⊎_, inl, inr, ⊎-elim}
 use native.Mathlib.Nat.{eq-or-lt-of-le}
@@ -12,7 +12,7 @@ use borrow.Author.Tests.{ne-eqb}
 use Rattle.bus.specs.declared.DataLen.{DataLen}
 use Rattle.bus.specs.declared.DataLen.the-variants as D
 use Rattle.bus.specs.Medium.{codeOf}
-use Rattle.bus.specs.Records.{dataLens, dataLen}
+use Rattle.bus.specs.Records.{wantedDif, dataLens, dataLen}
 
 -- a medium that none of the arms names
 pub code-none : (m : ℕ) → ((m ≡ 0x07) ⊎ (m ≡ 0x16) → ⊥) → ((m ≡ 0x06) ⊎ (m ≡ 0x15) → ⊥) → ((m ≡ 0x04) ⊎ (m ≡ 0x0c) → ⊥) → (m ≡ 0x0a → ⊥) → (m ≡ 0x0b → ⊥)
@@ -33,6 +33,9 @@ past n l other = ⊎-elim (λ e. absurd (other (sym e))) (λ h. h) (eq-or-lt-of-
 pub len-at : (dif n : ℕ) → dif % 16 ≡ n → getD dataLens n D.Unusable ≡ dataLen dif
 unfolding dataLen
 len-at dif n e = sym (ap (λ (k : ℕ). getD dataLens k D.Unusable) e)
+
+pub wanted-size : dataLen wantedDif ≡ D.Bytes 4
+wanted-size = sym (len-at wantedDif wantedDif refl)
 
 -- it is 8 at the most
 abbrev Small : DataLen → Type 0

@@ -20,7 +20,7 @@ use Rattle.transaction.proofs.WrittenLaws.{one-write-count, one-write-stamp, on
 use Rattle.protocol.specs.declared.State.{State}
 use Rattle.protocol.specs.declared.Store.the-variants as S
 use Rattle.protocol.specs.Said as protocol
-use Rattle.protocol.specs.Said.{Said, refused, taken, Answered}
+use Rattle.protocol.specs.Said.{refused, taken, Answered}
 use Rattle.table.specs.Table.{lanes}
 use Rattle.protocol.specs.History.{isTaken}
 use Rattle.protocol.specs.Sheet.{number}

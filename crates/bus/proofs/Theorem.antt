@@ -2,7 +2,7 @@
 -- Assumes nothing.
 use Prim.Native.Nat.{ℕ, _+_, _<_, _≤_}
 use mathlib.Core.Path.{_≡_, refl, sym, ap, ap₂, _∙_}
-use mathlib.Core.Bool.{true, _&&_}
+use mathlib.Core.Bool.{true}
 use mathlib.Core.Logic.{⊎-elim}
 use mathlib.Core.List.{List, [], _∷_, _++_}
 use native.Mathlib.Omega.{arith}
@@ -10,21 +10,20 @@ use lib.Dec.{leb, eqb, lit<}
 use lib.IntN.{ℤ}
 use lib.ListN.{length, take, drop, length-drop, length-append, take-append-drop, List·getD-append}
 use lib.Seq.{drop-at, drop-drop, length-take-le, getD-take, getD-drop}
-use borrow.Author.Tests.{le-leb, eqb-true, eqb-false}
+use borrow.Author.Tests.{le-leb, eqb-false}
 use Rattle.octets.specs.Lists.{at}
-use Rattle.octets.proofs.BoolLaws.{and-left, and-right}
 use Rattle.transaction.specs.Transaction.{meters, minText}
 use Rattle.protocol.specs.declared.Store.the-variants as S
 use Rattle.protocol.specs.Said.{taken}
 use Rattle.bus.specs.declared.Found.{Found}
 use Rattle.bus.specs.declared.Found.the-variants as F
-use Rattle.bus.specs.Frame.{fieldsLen, headerLen, leastL, mediumPlace, replyCi, replyC, isReply, longFrame, bytesIn, unbroken}
+use Rattle.bus.specs.Frame.{fieldsLen, headerLen, leastL, mediumPlace, replyCi, isReply, longFrame, bytesIn, unbroken}
 use Rattle.bus.specs.Medium.{litres, kilowattHours, codeOf, unitOf}
 use Rattle.bus.specs.Records.{wantedDif, firstReading}
 use Rattle.bus.specs.Answer.{Told, saidBy, codeIn, readingIn, heard, fromBus}
 use Rattle.bus.specs.Claim.{Built, TakenAs, TakenReply, BusClaim}
 use Rattle.bus.proofs.FieldLaws.{cond-by}
-use Rattle.bus.proofs.FrameLaws.{places, reply-long, unbroken-facts, unbroken-built, framed-unbroken, bytes-framed}
+use Rattle.bus.proofs.FrameLaws.{places, reply-facts, unbroken-facts, unbroken-built, framed-unbroken, bytes-framed}
 use Rattle.bus.proofs.BuiltLaws.{every-number, filler-passes, unwanted-passes, before-passes, wanted-taken}
 use Rattle.bus.proofs.AnswerLaws.{written, answer-taken}
 use Rattle.bus.proofs.TakenLaws.{not-taken, of-taken, taken-one, accept-not-four}
@@ -79,12 +78,6 @@ module _ (f : List ℕ) (code : ℕ) (v : ℤ) (b : Built f code v) where
     built-taken = record { saying = ap (λ (a : Told). a .said) answered; putting = ap (λ (a : Told). a .put) answered }
 
 -- ---- what is taken was built
-
-reply-facts : (b : List ℕ) → isReply b ≡ true → (leastL ≤ length b) × (replyC (at b 0) ≡ true) × (at b 2 ≡ replyCi)
-unfolding isReply
-reply-facts b e =
-    let p = and-left (leb leastL (length b) && replyC (at b 0)) (eqb (at b 2) replyCi) e in
-    (reply-long b e, and-right (leb leastL (length b)) (replyC (at b 0)) p, eqb-true (at b 2) replyCi (and-right (leb leastL (length b) && replyC (at b 0)) (eqb (at b 2) replyCi) e))
 
 module _ (f : List ℕ) (u : unbroken f ≡ true) (v : ℤ) where
   apart : (codeIn f ≡ 0 → ⊥) → firstReading (unitOf (codeIn f)) (drop leastL (bytesIn f)) ≡ F.Reading v → Built f (codeIn f) v

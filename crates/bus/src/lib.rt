@@ -27,18 +27,28 @@ const STOP: u8 = 0x16;
 const OPEN_LEN: usize = 4;
 
 const CLOSE_LEN: usize = 2;
-// C, address, CI and the fixed header: the least L.
-const LEAST_L: usize = 15;
-// CI of a reply with the fixed header.
-const REPLY_CI: u8 = 0x72;
-// Where the medium stands in a frame, the header's eighth byte, and where the records begin.
-const MEDIUM_PLACE: usize = OPEN_LEN + 10;
+// C, address, CI, and the fixed header.
+const FIELDS_LEN: usize = 3;
+
+const HEADER_LEN: usize = 12;
+// The least L.
+const LEAST_L: usize = FIELDS_LEN + HEADER_LEN;
+// Where C, CI and the medium, the header's eighth byte, stand in a frame, and where the records begin.
+const C_PLACE: usize = OPEN_LEN;
+
+const CI_PLACE: usize = OPEN_LEN + 2;
+
+const MEDIUM_PLACE: usize = OPEN_LEN + FIELDS_LEN + 7;
 
 const RECORDS_PLACE: usize = OPEN_LEN + LEAST_L;
+// CI of a reply with the fixed header.
+const REPLY_CI: u8 = 0x72;
 // A byte of filler, in a DIF's place.
 const FILLER: u8 = 0x2f;
-// The DIF that is taken: eight BCD digits.
+// The DIF that is taken: eight BCD digits. They begin behind DIF and VIF.
 const WANTED_DIF: u8 = 0x0c;
+
+const DATA_PLACE: usize = 2;
 // The VIF of litres, and of kWh.
 const LITRES: u8 = 0x13;
 
@@ -105,7 +115,7 @@ fn unbroken(f: &[u8]) -> bool
     let end = OPEN_LEN + len;
     let sum = sum_of(&f[OPEN_LEN..end]);
     let last = end + 1;
-    let c = f[4];
+    let c = f[C_PLACE];
     let reply = (c == 0x08) | (c == 0x18) | (c == 0x28) | (c == 0x38);
     (f[0] == START)
         & (f[2] == f[1])
@@ -113,7 +123,7 @@ fn unbroken(f: &[u8]) -> bool
         & (f[end] == sum)
         & (f[last] == STOP)
         & reply
-        & (f[6] == REPLY_CI)
+        & (f[CI_PLACE] == REPLY_CI)
 }
 
 // The code of a medium, and 0 of one that is not listed.
@@ -248,7 +258,7 @@ fn first_reading(s: &[u8], unit: u8) -> Found
                 at += n;
             }
             Met::Take => {
-                let data = at + 2;
+                let data = at + DATA_PLACE;
                 return reading_of(&s[data..]);
             }
             Met::End => {
