@@ -1,5 +1,6 @@
 -- What holds of the definitions of CR 1, whatever the frame. Digits, records and frames stand here as one writes them, and not as they are read,
--- so that a definition that reads them wrongly is found out. The proof is in proofs/Theorem.antt.
+-- so that a definition that reads them wrongly is found out. The request's tables (replyC, codeOf, unitOf, dataLens, unusableVif) are taken as they
+-- stand: they are to be read beside it. The proof is in proofs/Theorem.antt.
 -- Assumes nothing.
 use Prim.Native.Nat.{ℕ, zero, suc, _+_, _*_, _/_, _%_, _^_, _<_, _≤_}
 use mathlib.Core.Path.{_≡_}
