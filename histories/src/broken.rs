@@ -1,9 +1,10 @@
 //! The histories on models that are wrong in one place: each must be caught. A wrong device is held against the right
 //! model; where a claim about the whole history breaks, a wrong device is also held against one that is as wrong.
 
+use paviluko_model::bus::sum;
 use paviluko_model::{Due, Listed, Model, Params, Phase, Rank, Refusal, Store, Table};
 
-use crate::bus::{FILLER, Frame, data_len, sum};
+use crate::bus::{FILLER, Frame, data_len};
 use crate::device::{Answer, Call, Device, Reference, Twin};
 use crate::raw::Raw;
 use crate::tally::Tally;

@@ -4,6 +4,7 @@
 use std::fmt;
 
 use paviluko_model::Params;
+use paviluko_model::bus::{framed, sum};
 
 use crate::rng::Rng;
 use crate::values::{a_meter, a_stamp};
@@ -157,17 +158,6 @@ fn frame(rng: &mut Rng, kind: &Kind) -> (Vec<u8>, Option<Said>) {
         Outcome::Unknown => None,
     };
     (bytes, said)
-}
-
-/// 68 L L 68, the bytes, at most 255, their sum, 16.
-pub fn framed(inside: &[u8]) -> Vec<u8> {
-    assert!(inside.len() <= 255);
-    let l = inside.len() as u8;
-    [&[0x68, l, l, 0x68], inside, &[sum(inside), 0x16]].concat()
-}
-
-pub fn sum(inside: &[u8]) -> u8 {
-    inside.iter().fold(0, |sum, byte| sum.wrapping_add(*byte))
 }
 
 // ---- good replies

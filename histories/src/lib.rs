@@ -24,7 +24,7 @@ mod tally;
 mod values;
 mod world;
 
-pub use bus::{Frame, framed};
+pub use bus::Frame;
 pub use device::{Answer, Call, Device, Reference, Twin};
 pub use raw::Raw;
 pub use tally::Tally;

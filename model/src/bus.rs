@@ -29,12 +29,22 @@ pub fn from_bus(params: &Params, frame: &[u8], meter: u16, stamp: u64, out: &mut
     Ok(len)
 }
 
+/// The sum of bytes, modulo 256.
+pub fn sum(bytes: &[u8]) -> u8 {
+    bytes.iter().fold(0, |sum: u8, &byte| sum.wrapping_add(byte))
+}
+
+/// A long frame around the L bytes, which are at most 255: of more, L is what a byte holds of their number.
+pub fn framed(inside: &[u8]) -> Vec<u8> {
+    let l = inside.len() as u8;
+    [&[0x68, l, l, 0x68], inside, &[sum(inside), 0x16]].concat()
+}
+
 /// The L bytes of a long frame whose lengths, sum and fixed bytes are right.
 fn unframed(frame: &[u8]) -> Option<&[u8]> {
-    let [0x68, first, second, 0x68, inside @ .., sum, 0x16] = frame else { return None };
+    let [0x68, first, second, 0x68, inside @ .., last, 0x16] = frame else { return None };
     let lengths = first == second && inside.len() == usize::from(*first);
-    let added = inside.iter().fold(0_u8, |added, &byte| added.wrapping_add(byte));
-    (lengths && added == *sum).then_some(inside)
+    (lengths && sum(inside) == *last).then_some(inside)
 }
 
 /// What the L bytes of an unbroken frame say, as far as it matters.

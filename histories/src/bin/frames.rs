@@ -6,7 +6,7 @@
 use std::fmt;
 use std::process::ExitCode;
 
-use paviluko_histories::framed;
+use paviluko_model::bus::framed;
 use paviluko_model::{Params, Refusal};
 
 const METER: u16 = 183;

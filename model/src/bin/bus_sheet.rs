@@ -4,20 +4,11 @@
 
 use std::io;
 
+use paviluko_model::bus::{framed, sum};
 use paviluko_model::{Params, Refusal, Transaction, Write, from_bus};
 
 /// What stands in the room before a call.
 const BEFORE: u8 = 165;
-
-/// The L bytes in a frame: both L, the sum and the stop byte are right.
-fn framed(inside: &[u8]) -> Vec<u8> {
-    let l = (inside.len() % 256) as u8;
-    [&[0x68, l, l, 0x68], inside, &[sum(inside), 0x16]].concat()
-}
-
-fn sum(bytes: &[u8]) -> u8 {
-    bytes.iter().fold(0, |sum: u8, &byte| sum.wrapping_add(byte))
-}
 
 /// The bytes between the second 68 and the sum.
 fn inside(frame: &[u8]) -> &[u8] {

@@ -31,7 +31,7 @@ const LENGTHS: [Option<usize>; 16] = [
 /// Code and reading of what was taken, or the number on the display.
 type Said = Result<(u8, i32), u8>;
 
-/// 68 L L 68, the bytes, their sum, 16.
+/// 68 L L 68, the bytes, their sum, 16: added up in another way than the model does.
 fn framed(inside: &[u8]) -> Vec<u8> {
     let l = inside.len() as u8;
     let sum = inside.iter().map(|&byte| u64::from(byte)).sum::<u64>() % 256;
