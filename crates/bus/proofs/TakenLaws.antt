@@ -104,7 +104,6 @@ Coded code (F.Reading z) = (1 ≤ code) × (mag z < 2 ^ 31)
 Coded code F.Nothing = Unit {0}
 
 coded-by : (code : ℕ) (r : Found) → (code ≡ 0 → ⊥) → Small r → Coded code r
-unfolding Coded
 coded-by code (F.Reading z) n s = (omega (arith, n), s)
 coded-by code F.Nothing n s = tt
 
@@ -149,7 +148,7 @@ module _ (meter stamp : ℕ) (m : meter < meters) (l : stamp < 2 ^ 64) where
   write-legal code z a b = rw (le-leb 0 meter (omega arith), lt-ltb meter meters m, le-leb 1 code a, le-leb code codes b)
 
   heard-fine : (code : ℕ) (r : Found) → code ≤ codes → Coded code r → WhereTaken (Fine meter stamp) (heard meter stamp code r)
-  unfolding heard Coded
+  unfolding heard
   heard-fine code (F.Reading z) few c e =
       let w : Write = record { meter = meter; code = code; spare = 0; reading = z } in
       let h : meter < 2 ^ 16 = omega arith in
