@@ -67,8 +67,9 @@
  * MEMORY AND THREADS. There is no heap, no global and no hidden state: the functions are re-entrant, and no pointer
  * outlives its call. State and reply are some 8 KB each and are passed by value, so a call needs stack. Measured
  * (bench/stack.c), state and reply among it: load 27 KB, accept 31, truncate 32, point 40, commit 47, seal 52, checkpoint
- * 72, recover 105, the questions at the end 15; from_bus, which has neither, less than 1. PAVILUKO_STACK leaves room beyond the deepest of them. The paviluko_do_
- * functions at the end of this file take a pointer to the state instead, and write the next state back.
+ * 72, recover 105, the questions at the end 15; from_bus, which has neither, less than 1. PAVILUKO_STACK leaves room beyond
+ * the deepest of them. The paviluko_do_ functions at the end of this file take a pointer to the state instead, and write
+ * the next state back.
  *
  * THE KEY. A state holds the key; paviluko_clear wipes one that is no longer needed. The stack that a call used may hold
  * copies of the state, the key and plain readings until something else is written there, and so may the frame of the
