@@ -6,3 +6,4 @@ pub mod ReadLaws
 pub mod OrderLaws
 pub mod EnteredLaws
 pub mod RoundTrip
+pub mod Theorem
