@@ -4,17 +4,17 @@
 -- lane, so the table covers the book up to one number more. In the end each lane with R < V has reached V, and no record of the book lies above
 -- V: the table covers all of it.
 -- Assumes nothing.
-use Prim.Native.Nat.{ℕ, zero, suc, _≤_, _<_}
+use Prim.Native.Nat.{ℕ, suc, _≤_, _<_}
 use mathlib.Core.Path.{_≡_, refl, ap, subst, _∙_}
-use mathlib.Core.Bool.{Bool, true, false, cond, not, _||_}
-use mathlib.Core.Option.{Option, none, some}
+use mathlib.Core.Bool.{true, false}
+use mathlib.Core.Option.{some}
 use mathlib.Core.Logic.{_⊎_, inl, inr}
 use mathlib.Core.List.{List, [], List·Memᴰ, List·Memᴰ·head, List·Memᴰ·tail, List·Memᴰ·not-nil}
 use native.Mathlib.Omega.{arith}
 use native.Mathlib.Decide.{decLt, decLe}
-use lib.Dec.{leb, ltb, eqb}
+use lib.Dec.{leb, ltb}
 use lib.ListN.{set, length, take, drop, length-set, drop-of-length-le, List·getD-eq-default}
-use borrow.Author.Tests.{leb-false, ltb-false, eqb-true}
+use borrow.Author.Tests.{leb-false, ltb-false}
 use Rattle.octets.specs.Lists.{at}
 use Rattle.octets.proofs.BoolLaws.{or-left, or-right}
 use Rattle.table.specs.declared.Table.{Table}
@@ -24,11 +24,12 @@ use Rattle.sealed.specs.Record.{Opened, wholeLen, openRecord}
 use Rattle.sealed.specs.Log.{recordAt, recordsTo, recordsIn}
 use Rattle.sealed.proofs.LogTrip.{at-opens, records-at, records-nil}
 use Rattle.protocol.specs.declared.Vault.{Vault}
-use Rattle.protocol.specs.Replay.{Reading, Read, stopped, reading, passedOver, orStop, behind, stepOpened, step, stepOn, steps, ended, replay}
+use Rattle.protocol.specs.Replay.{Reading, reading, passedOver, behind, replay}
 use Rattle.protocol.proofs.Basis.{Writable, withRecord}
 use Rattle.protocol.proofs.Lanes.{Put, same, other, put}
 use Rattle.protocol.proofs.Latest.{In, Part, Full, Upto, Single, sound-enter, cover-enter, canon-enter, cover-mono}
-use Rattle.protocol.proofs.MissingLaws.{Reached, ends-reached}
+use Rattle.protocol.proofs.MissingLaws.{Reached}
+use Rattle.protocol.proofs.ReadingLaws.{passing, entering, kept-replay}
 
 -- every number above R and not above V is in the book, under epoch e
 abbrev pub Whole : List ℕ → List ℕ → ℕ → List Opened → Type 0
@@ -83,35 +84,9 @@ module _ (key : List ℕ) (x : Vault) (book : List Opened) (sealed : Opened → 
     abbrev Was : ℕ → ℕ → Type 0
     Was n offset = (b : List ℕ) (r : Opened) → List·Memᴰ b (recordsTo n (drop offset log)) → openRecord (aesGcm key) b ≡ some r → sealed r
 
-    -- what a step comes to, with n records left; of a reading that was stopped nothing is said
-    Good : ℕ → Read → Type 0
-    Good n (stopped k vs) = Unit {0}
-    Good n (reading g) = Loop (g .last) (g .table) × Was n (g .offset)
-
-    -- whichever of two it is
-    good-cond : (n : ℕ) (b : Bool) (d e : Read) → (b ≡ true → Good n d) → (b ≡ false → Good n e) → Good n (cond b d e)
-    good-cond n true d e h k = h refl
-    good-cond n false d e h k = k refl
-
-    -- where a test has to hold
-    good-stop : (n : ℕ) (b : Bool) (k : ℕ) (vs : List ℕ) (d : Read) → (b ≡ true → Good n d) → Good n (orStop (not b) k vs d)
-    unfolding orStop Good
-    good-stop n true k vs d h = h refl
-    good-stop n false k vs d h = tt
-
-    -- a record that was sealed, or none
-    good-opened : (n : ℕ) (g : Reading) (o : Option Opened) → ((r : Opened) → o ≡ some r → sealed r × Was n (behind g r)) → Loop (g .last) (g .table) → Good n (stepOpened x g o)
-    unfolding stepOpened passedOver Good
-    good-opened n g none s h = tt
-    good-opened n g (some r) s h =
-        let low = leb (r .number) (at (x .r) (r .lane)) in
-        let high = ltb (at (x .v) (r .lane)) (r .number) in
-        let turn = eqb (r .number) (suc (at (g .last) (r .lane))) in
-        let was = s r refl in
-        good-cond n (low || high) _ _ (λ p. (h, was .1))
-        (λ p. good-stop n (eqb (r .epoch) (x .e)) _ _ _
-        (λ e. good-stop n turn _ _ _
-        (λ q. (took (g .last) (g .table) r h (was .0) (leb-false _ _ (or-left low high p)) (ltb-false _ _ (or-right low high p)) (eqb-true _ _ q), was .1))))
+    -- as far as the reading has come, with n records left
+    abbrev Came : ℕ → Reading → Type 0
+    Came n g = Loop (g .last) (g .table) × Was n (g .offset)
 
     -- what is read was the first of those left
     first : (n : ℕ) (g : Reading) → Was (suc n) (g .offset) → (r : Opened) → recordAt (aesGcm key) log (g .offset) ≡ some r → sealed r × Was n (behind g r)
@@ -123,23 +98,22 @@ module _ (key : List ℕ) (x : Vault) (book : List Opened) (sealed : Opened → 
           λ b y m. was b y (rw is (List·Memᴰ·tail m)),
         )
 
-    -- a record more
-    good-on : (n : ℕ) (d : Read) → Good (suc n) d → Good n (stepOn (aesGcm key) x log d)
-    unfolding stepOn step Good
-    good-on n (stopped k vs) h = tt
-    good-on n (reading g) h =
-        good-cond n (ltb (g .offset) (length log)) _ _
-        (λ p. good-opened n g (recordAt (aesGcm key) log (g .offset)) (first n g (h .1)) (h .0))
-        (λ p.
-        let end : drop (g .offset) log ≡ [] = drop-of-length-le log (ltb-false _ _ p) in
-        let none-left : recordsTo n (drop (g .offset) log) ≡ [] = ap (recordsTo n) end ∙ records-nil n in
-        (h .0, λ b r m. absurd (List·Memᴰ·not-nil (rw none-left at m))))
+    passes : (n : ℕ) (g : Reading) (r : Opened) → Came (suc n) g → recordAt (aesGcm key) log (g .offset) ≡ some r → passedOver x r ≡ true → Came n (passing g r)
+    passes n g r h e p = (h .0, first n g (h .1) r e .1)
 
-    -- several
-    good-steps : (n : ℕ) (d : Read) → Good n d → Good 0 (steps n (aesGcm key) x log d)
-    unfolding steps
-    good-steps zero d h = h
-    good-steps (suc n) d h = good-steps n (stepOn (aesGcm key) x log d) (good-on n d h)
+    enters : (n : ℕ) (g : Reading) (r : Opened) → Came (suc n) g → recordAt (aesGcm key) log (g .offset) ≡ some r → passedOver x r ≡ false → r .number ≡ suc (at (g .last) (r .lane)) → Came n (entering g r)
+    unfolding passedOver
+    enters n g r h e p q =
+        let low = leb (r .number) (at (x .r) (r .lane)) in
+        let high = ltb (at (x .v) (r .lane)) (r .number) in
+        let was = first n g (h .1) r e in
+        (took (g .last) (g .table) r (h .0) (was .0) (leb-false _ _ (or-left low high p)) (ltb-false _ _ (or-right low high p)) q, was .1)
+
+    ends : (n : ℕ) (g : Reading) → Came (suc n) g → length log ≤ g .offset → Came n g
+    ends n g h p =
+        let end : drop (g .offset) log ≡ [] = drop-of-length-le log p in
+        let none-left : recordsTo n (drop (g .offset) log) ≡ [] = ap (recordsTo n) end ∙ records-nil n in
+        (h .0, λ b r m. absurd (List·Memᴰ·not-nil (rw none-left at m)))
 
   -- a lane with R < V has reached V, and any other is there already
   reached : (last : List ℕ) → ((l : ℕ) → at (x .r) l ≤ at last l) → ((l : ℕ) → l < lanes → Reached x last l) → (l : ℕ) → at (x .v) l ≤ at last l
@@ -158,17 +132,10 @@ module _ (key : List ℕ) (x : Vault) (book : List Opened) (sealed : Opened → 
     canon = h .upto .canon;
   }
 
-  -- the end of the reading
-  good-ended : (log : List ℕ) (d : Read) (g : Reading) → Good log 0 d → ended x d ≡ reading g → Full book (g .table)
-  unfolding ended Good
-  good-ended log (stopped n vs) g h e = let z : _≡_ {A = ℕ} 0 1 = cc in absurd (omega arith)
-  good-ended log (reading f) g h e = let i = ends-reached x f g e in subst (λ (k : Reading). Full book (k .table)) (i .0) (full (f .last) (f .table) (h .0) (i .1))
-
   -- from a table that has the book up to R, an accepted reading comes to the latest of the whole book
   pub replay-full : (log : List ℕ) → ((b : List ℕ) (r : Opened) → List·Memᴰ b (recordsIn log) → openRecord (aesGcm key) b ≡ some r → sealed r) → (t : Table) → Upto book (x .r) t
       → (g : Reading) → replay (aesGcm key) x t log ≡ reading g → Full book (g .table)
-  unfolding replay Good recordsIn
+  unfolding recordsIn
   replay-full log was t u g e =
-      good-ended log (steps (length log) (aesGcm key) x log (reading (record { offset = 0; last = x .r; table = t }))) g
-      (good-steps log (length log) (reading (record { offset = 0; last = x .r; table = t })) (record { upto = u; low = λ l. omega arith; len = rlen }, was))
-      e
+      let k = kept-replay (aesGcm key) x log (Came log) (passes log) (enters log) (ends log) t g (record { upto = u; low = λ l. omega arith; len = rlen }, was) e in
+      full (g .last) (g .table) (k .0 .0) (k .1)

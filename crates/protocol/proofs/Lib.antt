@@ -2,7 +2,7 @@
 -- BlankLaws: the blank state. StopLaws: the numbers that a reading stops with. Walks: the ways through an operation. SpentLaws: 01's bounds for a spent counter. RefusalLaws: refusals. SaidLaws: answers in 01's numbers lose nothing. VaultLaws: Load's rule as facts, and the stores that keep it. TallyLaws: the stores of
 -- recovery and truncation, in order.
 -- Basis: what the theorem takes from the layers below. Lanes: an array of lanes. Latest: the latest reading over a set of records.
--- BookLaws: the book's table. MissingLaws: lanes that have not reached V. Hostile: reading any log. LaidLaws, Card, Faith: reading the log of
+-- BookLaws: the book's table. MissingLaws: lanes that have not reached V. ReadingLaws: the ways through a reading. Hostile: reading any log. LaidLaws, Card, Faith: reading the log of
 -- a card that kept faith. SheetLaws: the bench sheet.
 -- Invariant: what holds of every list. StoreLaws: how each invariant takes each store. DueLaws: tests of the phase and the due store. Listed, Phases: the state's lists, its tie in service.
 -- KeepRecover, KeepCold, KeepAccept, KeepPoint, KeepCheckpoint, KeepTruncate: each call keeps the invariants. Apart: bytes and what they hold.
@@ -20,6 +20,7 @@ pub mod Lanes
 pub mod Latest
 pub mod BookLaws
 pub mod MissingLaws
+pub mod ReadingLaws
 pub mod Hostile
 pub mod LaidLaws
 pub mod SheetLaws
