@@ -42,6 +42,7 @@ use Rattle.protocol.specs.declared.RecoverStep.the-variants as G
 use Rattle.protocol.specs.declared.RecoverNumber.the-variants as M
 use Rattle.protocol.specs.declared.Store.{Store}
 use Rattle.protocol.specs.declared.Store.the-variants as S
+use Rattle.protocol.proofs.Walks.{through}
 use Rattle.protocol.proofs.SpentLaws.{passes-unspent}
 use Rattle.protocol.proofs.VaultLaws.{VaultFine, StateFine, state-fine, fine-state, fine-n, fine-s, fine-e, fine-r-w, fine-r-count, fine-v-w}
 
@@ -73,13 +74,6 @@ record Accepted (c : State) (a : Answered) : Type 0 where
   table : Table
   is : a ≡ taking (recovered c table) (S.N (suc (c .vault .n))) []
 
--- what was taken was not turned down
-through : (b : Bool) (c : State) (n : ℕ) (vs : List ℕ) (other : Answered) → (b ≡ false → isTaken (other .said) ≡ true → Accepted c other)
-    → isTaken (refuse b c n vs other .said) ≡ true → Accepted c (refuse b c n vs other)
-unfolding refuse isTaken
-through true c n vs other go h = clash (sym h)
-through false c n vs other go h = go refl h
-
 module _ (c : State) (fine : valid c ≡ true) (left : spent (c .vault) ≡ false) where
   read-taken : (r : Read) → isTaken (recoverRead c r .said) ≡ true → Accepted c (recoverRead c r)
   unfolding recoverRead isTaken
@@ -89,7 +83,8 @@ module _ (c : State) (fine : valid c ≡ true) (left : spent (c .vault) ≡ fals
 first-taken : (c : State) (file log : List ℕ) → isTaken (recoverFirst c file log .said) ≡ true → Accepted c (recoverFirst c file log)
 unfolding recoverFirst
 first-taken c file log =
-    through _ c 1 [] _ (λ v. through _ c 3 _ _ (λ l. through _ c 8 [] _ (λ s. read-taken c (and-true (valid c) (isNothing (c .due)) (not-false _ v) .0) s _)))
+    through (Accepted c) _ c 1 [] _
+    (λ v. through (Accepted c) _ c 3 _ _ (λ l. through (Accepted c) _ c 8 [] _ (λ s. read-taken c (and-true (valid c) (isNothing (c .due)) (not-false _ v) .0) s _)))
 
 module _ (b : State) (listing : b .journal .count ≤ listed) (pointing : b .points .count ≤ pointsMax) (file log : List ℕ) (room : ℕ) (long : fileLen ≤ room) where
   -- a recovering collector: the numbers, and the store that is due
@@ -212,7 +207,7 @@ accepted-tally c file log room long f l t e =
     names-more (λ d. recover d file log room) Serves c (recovered c t) (S.N (suc (x .n))) [] _ e
     (names-rest (recovered c t) (f .listed) (f .pointed) file log room long (setN x (suc (x .n))) (fine-n x (f .vault) (omega arith)) (omega arith) (omega arith) (omega arith))
 
-cold-first : (c : State) (file log : List ℕ) (room : ℕ) → c .phase ≡ F.Cold → recover c file log room ≡ recoverFirst c file log
+pub cold-first : (c : State) (file log : List ℕ) (room : ℕ) → c .phase ≡ F.Cold → recover c file log room ≡ recoverFirst c file log
 unfolding recover recoverPhase
 cold-first c file log room cold = rw cold
 

@@ -28,6 +28,7 @@ use Rattle.protocol.specs.Checkpoint.{checkpointed, checkpointFirst, che
 use Rattle.protocol.specs.Truncate.{droppedTo, truncateLane, truncateFirst, truncateNext, truncateDelete, truncateStep, truncateDue, truncate}
 use Rattle.protocol.specs.Replay.{Read, stopped, reading}
 use Rattle.protocol.specs.Recover.{recovered, recoverRead, recoverFirst, recoverNumber, inService, recoverStep, recoverDue, recoverPhase, recover}
+use Rattle.protocol.specs.History.{isTaken}
 use Rattle.protocol.specs.declared.Vault.{Vault}
 use Rattle.protocol.specs.declared.State.{State}
 use Rattle.protocol.specs.declared.Point.{Point}
@@ -186,6 +187,13 @@ unfolding load
 walk-load P down x key h = past P blank down _ 2 [] _ refl (λ v. past P blank down _ 3 (keyLen ∷ []) _ refl (λ l. h))
 
 -- ---- what a call says where a test is passed, and where it decides
+
+-- what was taken was not turned down
+pub through : (P : Answered → Type 0) (b : Bool) (c : State) (n : ℕ) (vs : List ℕ) (a : Answered) → (b ≡ false → isTaken (a .said) ≡ true → P a)
+    → isTaken (refuse b c n vs a .said) ≡ true → P (refuse b c n vs a)
+unfolding refuse isTaken
+through P true c n vs a go h = clash (sym h)
+through P false c n vs a go h = go refl h
 
 pub past-refuse : (b : Bool) (c : State) (n : ℕ) (vs : List ℕ) (a : Answered) (x : Said) → b ≡ false → a .said ≡ x → refuse b c n vs a .said ≡ x
 unfolding refuse
