@@ -423,10 +423,10 @@ static void make_day(void)
             add(&day[i], 10 * lane + k, (uint8_t)(1 + k), 1000 * (k + 1) + 7 * i);
         }
     }
-    /* One meter heard by two receivers in the same second: lane 5's reading is the latest, though lane 3's comes later. */
-    begin(&day[20], 5, MORNING + 10800);
+    /* One meter heard by two receivers in the same second: lane 3's reading is the latest, though lane 5's comes later. */
+    begin(&day[20], 3, MORNING + 10800);
     add(&day[20], 200, 1, 4711);
-    begin(&day[21], 3, MORNING + 10800);
+    begin(&day[21], 5, MORNING + 10800);
     add(&day[21], 200, 1, 4712);
     /* A meter that was mounted the wrong way round. */
     begin(&day[130], 4, MORNING + 70200);
@@ -438,13 +438,13 @@ static void make_day(void)
     add(&day[141], 202, 3, 80);
 }
 
-/* Whether write a comes after write b, in the order of stamps, then lanes, then numbers. */
+/* Whether write a is later than write b: the greater stamp, then the lower lane, then the greater number. */
 static int later(const paviluko_entry *a, const paviluko_entry *b)
 {
     if (a->stamp != b->stamp) {
         return a->stamp > b->stamp;
     }
-    return a->lane != b->lane ? a->lane > b->lane : a->number > b->number;
+    return a->lane != b->lane ? a->lane < b->lane : a->number > b->number;
 }
 
 /* Whether the table is what it must be: of every meter the latest reading among the visible transactions, and nothing more. */

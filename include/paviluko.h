@@ -33,6 +33,11 @@
  * the recovery: V is at least the number that accept named, or the transaction is not visible and is to be accepted anew,
  * under another number. A recovery raises V to W, and makes nothing visible by it.
  *
+ * THE LATEST READING of a meter has the greatest stamp; among equal stamps the lowest lane; in one lane the greatest
+ * number. The order in which readings come plays no part. So give the wired buses the low lanes and the radio receivers
+ * those above: a meter that both hear in the same second shows the wired figure. (In editions 0 and 1 the greatest lane
+ * won a tie. Their checkpoints are taken as they are; each entry in them is compared by the order of today from then on.)
+ *
  * WHICH FILE. A checkpoint file has version S + 1 at the time when it is named; the store of S that follows makes it the
  * one in use. The version is bytes 4 to 11 of the file, the seal number bytes 12 to 19, little-endian. After a cut, hand
  * over the file whose version is the vault's S; if a cut between the file and S left two of one version, either is right.
@@ -102,7 +107,7 @@ extern "C" {
  * How many of the requests of document 02 this interface has: each one raises it. The library says its own, so that a program
  * can tell whether header and archive belong together. make lib prints it with a hash of the sources. */
 
-#define PAVILUKO_EDITION 1
+#define PAVILUKO_EDITION 2
 uint64_t paviluko_edition(void);
 
 /* ---- numbers and lengths ---- */

@@ -144,11 +144,11 @@ sheet key =
     ∷ gives (read (fromLog key 3 5 6 (3 ∷ 4 ∷ 5 ∷ 6 ∷ []))) (0 ∷ 0 ∷ 4 ∷ 5 ∷ 0 ∷ [])
     -- "M9 R 5, V 3, W 5, empty log: read."
     ∷ gives (display (fromLog key 5 3 5 []) ∷ []) (0 ∷ [])
-    -- "M10 stamp 100 on lane 2, number 7, against stamp 100 on lane 5, number 1: lane 5.", in either order
+    -- "M10 stamp 100 on lane 2, number 7, against stamp 100 on lane 5, number 1: lane" 2 (02, CR 2), in either order
     ∷ gives
     (entry (entered (entered emptyTable (transaction 0 1) 2 7) (transaction 0 1) 5 1) 0 .lane
     ∷ entry (entered (entered emptyTable (transaction 0 1) 5 1) (transaction 0 1) 2 7) 0 .lane ∷ [])
-    (5 ∷ 5 ∷ [])
+    (2 ∷ 2 ∷ [])
     -- "M11 visible records at 10 and 20: point 20 counts one; point 21 counts both, then position 21: 6, and 22 is taken."
     ∷ gives
     (counted (point (two key) 20) ∷ counted (point (two key) 21)

@@ -6,4 +6,5 @@ pub mod ReadLaws
 pub mod OrderLaws
 pub mod EnteredLaws
 pub mod RoundTrip
+pub mod AnyTable
 pub mod Theorem

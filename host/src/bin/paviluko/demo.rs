@@ -4,6 +4,7 @@
 //! The demonstration writes down itself what was made visible, and after every start compares the box's table with it.
 //! The plug is pulled inside this process, so its stores do not wait for the disk.
 
+use std::cmp::Reverse;
 use std::collections::BTreeMap;
 use std::fmt;
 use std::fs;
@@ -120,8 +121,8 @@ impl Drop for Place {
     }
 }
 
-/// What was made visible: of each meter the latest, as 01 has it. The greatest stamp; among equal ones the greatest lane;
-/// in one lane the greatest number.
+/// What was made visible: of each meter the latest. The greatest stamp; among equal ones the lowest lane; in one lane the
+/// greatest number.
 #[derive(Default)]
 struct Book {
     latest: BTreeMap<u8, Reading>,
@@ -136,7 +137,7 @@ impl Book {
             self.readings += 1;
             let new =
                 Reading { stamp: taking.stamp, lane: taking.lane, number, code: entry.code, reading: entry.reading };
-            let rank = |r: &Reading| (r.stamp, r.lane, r.number);
+            let rank = |r: &Reading| (r.stamp, Reverse(r.lane), r.number);
             let meter = entry.meter as u8;
             if self.latest.get(&meter).is_none_or(|old| rank(&new) > rank(old)) {
                 self.latest.insert(meter, new);
