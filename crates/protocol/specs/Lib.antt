@@ -3,7 +3,8 @@
 -- Steps: one store of an operation that takes several.
 -- Load, Accept (with Seal), Commit, Point, Checkpoint, Truncate, Replay (the log rules), Recover: the operations.
 -- Tally: the stores of the longer operations, in order. LatestOf: the latest of a book's writes. History: the list, the card and the premises.
--- Since: what a list has used and set since service began. Claim: demand 3. Beside: what is said beside it.
+-- Since: what a list has used and set since service began. Claim: demand 3. Beside: what is said beside it. Updated: what
+-- holds of a box whose table another order made.
 -- Worked: a list with an honest card and hostile ones, and one with every call. Sheet: the bench sheet.
 pub mod Vaults
 pub mod States
@@ -23,5 +24,6 @@ pub mod History
 pub mod Since
 pub mod Claim
 pub mod Beside
+pub mod Updated
 pub mod Worked
 pub mod Sheet
