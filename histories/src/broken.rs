@@ -2,7 +2,7 @@
 //! model; where a claim about the whole history breaks, a wrong device is also held against one that is as wrong.
 
 use paviluko_model::bus::sum;
-use paviluko_model::{Due, Listed, Model, Params, Phase, Rank, Refusal, Store, Table};
+use paviluko_model::{Due, Listed, Model, Params, Phase, Refusal, Store, Table};
 
 use crate::bus::{FILLER, Frame, data_len};
 use crate::device::{Answer, Call, Device, Reference, Twin};
@@ -13,8 +13,12 @@ use crate::world::run;
 /// What is wrong.
 #[derive(Clone, Copy, Debug, PartialEq, Eq)]
 enum Fault {
-    /// The lowest lane wins a tie.
+    /// The greatest lane wins a tie.
     Order,
+    /// Lanes are compared before stamps.
+    LaneFirst,
+    /// In one lane the lowest number wins a tie.
+    NumberReversed,
     /// Truncate names R of every lane and sets lane 0's alone.
     LaneZeroAlone,
     /// Recover makes one checkpoint.
@@ -64,8 +68,11 @@ struct Broken {
 impl Broken {
     fn new(fault: Fault) -> Broken {
         let mut params = Params::scope();
-        if fault == Fault::Order {
-            params.later = |a: &Rank, b: &Rank| (a.stamp, b.lane, a.number) > (b.stamp, a.lane, b.number);
+        match fault {
+            Fault::Order => params = Params::old_order(),
+            Fault::LaneFirst => params.later = |a, b| (b.lane, a.stamp, a.number) > (a.lane, b.stamp, b.number),
+            Fault::NumberReversed => params.later = |a, b| (a.stamp, b.lane, b.number) > (b.stamp, a.lane, a.number),
+            _ => {}
         }
         Broken { fault, twin: Twin::new(&params), began: Vec::new() }
     }
@@ -283,6 +290,8 @@ fn caught_alone(fault: Fault, says: &str) {
 fn a_fault_on_one_side_is_caught() {
     for fault in [
         Fault::Order,
+        Fault::LaneFirst,
+        Fault::NumberReversed,
         Fault::LaneZeroAlone,
         Fault::OneCheckpoint,
         Fault::VisibleFirst,
@@ -309,6 +318,8 @@ fn a_fault_on_one_side_is_caught() {
 #[test]
 fn a_fault_on_both_sides_is_caught_by_what_is_known() {
     caught_alone(Fault::Order, "is not as in the book");
+    caught_alone(Fault::LaneFirst, "is not as in the book");
+    caught_alone(Fault::NumberReversed, "is not as in the book");
     caught_alone(Fault::EmptyTable, "is not as in the book");
     caught_alone(Fault::NoCard, "a card that kept faith");
     caught_alone(Fault::LaneZeroAlone, "the state's numbers are not the vault's");
