@@ -279,11 +279,13 @@ fn caught(fault: Fault) {
     assert!(failure.is_some(), "{fault:?} passes");
 }
 
-/// A fault on both sides: caught by what holds of whole histories.
+/// A fault on both sides: caught by what holds of whole histories, in these words. Other words may come first.
 fn caught_alone(fault: Fault, says: &str) {
-    let failure = first_failure(2000, |seed, tally| run(Broken::new(fault), Broken::new(fault), seed, 400, tally));
-    let Some(failure) = failure else { panic!("{fault:?} on both sides passes") };
-    assert!(failure.contains(says), "{fault:?} on both sides: {failure}");
+    let failure = first_failure(2000, |seed, tally| {
+        let ran = run(Broken::new(fault), Broken::new(fault), seed, 400, tally);
+        if ran.as_ref().is_err_and(|failure| !failure.contains(says)) { Ok(()) } else { ran }
+    });
+    assert!(failure.is_some(), "{fault:?} on both sides is never caught by: {says}");
 }
 
 #[test]
@@ -317,9 +319,9 @@ fn a_fault_on_one_side_is_caught() {
 
 #[test]
 fn a_fault_on_both_sides_is_caught_by_what_is_known() {
-    caught_alone(Fault::Order, "is not as in the book");
+    caught_alone(Fault::Order, "a tie is not the lowest lane's");
     caught_alone(Fault::LaneFirst, "is not as in the book");
-    caught_alone(Fault::NumberReversed, "is not as in the book");
+    caught_alone(Fault::NumberReversed, "a tie is not the greatest number's");
     caught_alone(Fault::EmptyTable, "is not as in the book");
     caught_alone(Fault::NoCard, "a card that kept faith");
     caught_alone(Fault::LaneZeroAlone, "the state's numbers are not the vault's");

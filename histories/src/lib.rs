@@ -3,10 +3,11 @@
 //! A history is a list of calls, cuts, handed states and frames off the bus, drawn from a seed. After every call the two
 //! answers, the lent buffer and the states are compared, and what the scope says about whole histories is asserted: the
 //! table after an accepted Recover is the book's, and a card that kept faith is taken unless a counter is spent. What is
-//! known of a frame is asserted too, and Accept knows the layout of what came out of one.
+//! known of a frame is asserted too, and Accept knows the layout of what came out of one. Of writes in one second the
+//! table shows the one that the request says.
 //!
-//! A module uses only those named before it: `rng`, `raw`, `values`, `bus`, `device`, `tally`, `host`, `bytes`, `cards`,
-//! `calls`, `states`, `draw`, `world`.
+//! A module uses only those named before it: `rng`, `raw`, `values`, `bus`, `device`, `tally`, `ties`, `host`, `bytes`,
+//! `cards`, `calls`, `states`, `draw`, `world`.
 
 #[cfg(test)]
 mod broken;
@@ -21,6 +22,7 @@ pub mod raw;
 mod rng;
 mod states;
 mod tally;
+mod ties;
 mod values;
 mod world;
 

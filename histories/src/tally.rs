@@ -5,6 +5,9 @@ use std::fmt::Write;
 use crate::bus::{KINDS, Said};
 use crate::device::{Answer, FROM_BUS, FUNCTIONS, LAST, NUMBERS};
 
+/// More ties of two lanes than so many have to come up.
+const TIES: u64 = 1000;
+
 /// Counts over all histories.
 #[derive(Clone, Debug, Default)]
 pub struct Tally {
@@ -38,6 +41,12 @@ pub struct Tally {
     pub negative: u64,
     /// Transactions off the bus that Accept took.
     pub off_bus: u64,
+    /// Committed writes that met an entry of their second and another lane: the write won, and the entry stayed.
+    pub two_lanes: [u64; 2],
+    /// The same of their second and lane, with another number.
+    pub one_lane: [u64; 2],
+    /// What recoveries read of the second of the entry shown: of another lane, and of its lane with another number.
+    pub recovered_ties: [u64; 2],
 }
 
 impl Tally {
@@ -66,8 +75,13 @@ impl Tally {
         self.frames[kind] += 1;
     }
 
+    /// Ties of two lanes that a Commit decided.
+    fn ties(&self) -> u64 {
+        self.two_lanes.iter().sum()
+    }
+
     /// What never came up: functions never taken, numbers never returned, halves of the claim never tried, kinds of frames
-    /// and readings off the bus never seen.
+    /// and readings off the bus never seen, ties too few.
     pub fn missing(&self) -> Vec<String> {
         let mut out = Vec::new();
         for (i, name) in FUNCTIONS.iter().enumerate() {
@@ -89,7 +103,15 @@ impl Tally {
             (self.recoveries[1], "no recovery of 24 stores"),
             (self.negative, "no reading off the bus was below 0"),
             (self.off_bus, "no transaction off the bus was accepted"),
+            (self.two_lanes[0], "no write won a tie of two lanes"),
+            (self.two_lanes[1], "no entry stayed in a tie of two lanes"),
+            (self.one_lane[0], "no write won a tie of one lane"),
+            (self.recovered_ties[0], "no recovery read a tie of two lanes"),
+            (self.recovered_ties[1], "no recovery read a tie of one lane"),
         ];
+        if self.ties() <= TIES {
+            out.push(format!("only {} ties of two lanes, where more than {TIES} are wanted", self.ties()));
+        }
         for (code, _) in (1..).zip(self.codes).filter(|(_, count)| *count == 0) {
             out.push(format!("no reading off the bus had code {code}"));
         }
@@ -159,6 +181,18 @@ impl Tally {
             self.off_bus,
             KINDS.len(),
             self.frames.iter().min().unwrap_or(&0)
+        );
+        let _ = writeln!(
+            out,
+            "ties of two lanes in one second: {}, of which the write won {} and the entry stayed {}; of one lane: {} \
+             and {}; in recoveries {} of two lanes, {} of one",
+            self.ties(),
+            self.two_lanes[0],
+            self.two_lanes[1],
+            self.one_lane[0],
+            self.one_lane[1],
+            self.recovered_ties[0],
+            self.recovered_ties[1]
         );
         out
     }

@@ -13,6 +13,7 @@ use crate::draw::{self, Drawn, Event};
 use crate::host::{Host, Style};
 use crate::raw::Raw;
 use crate::tally::Tally;
+use crate::ties;
 
 /// A named store that is not yet done.
 struct Pending {
@@ -196,6 +197,10 @@ impl<D: Device, R: Reference> World<'_, D, R> {
             return Err(format!("the state's numbers are not the vault's: {:?} {:?}", model.vault, self.host.vault));
         }
         let was_cold = self.reference.model().is_some_and(|model| model.phase == Phase::Cold);
+        let table = match call {
+            Call::Commit { .. } => self.reference.model().map(|model| model.table.clone()),
+            _ => None,
+        };
         self.lend(call.room());
         let answer = self.device.call(call, &mut self.out);
         let expected = self.reference.call(call, &mut self.expected);
@@ -206,15 +211,16 @@ impl<D: Device, R: Reference> World<'_, D, R> {
             return Err(told("the refused call changed the state"));
         }
         self.same_states("after the call").map_err(|what| told(&what))?;
-        self.keep(drawn, &answer, was_cold).map_err(|what| told(&what))
+        self.keep(drawn, &answer, was_cold, table.as_ref()).map_err(|what| told(&what))
     }
 
     fn same_states(&self, when: &str) -> Result<(), String> {
         self.device.differs(self.reference.model()).map_or(Ok(()), |what| Err(format!("{when}: {what}")))
     }
 
-    /// Keeps what a call named and put out, and asserts what holds of the whole history.
-    fn keep(&mut self, drawn: &Drawn, answer: &Answer, was_cold: bool) -> Result<(), String> {
+    /// Keeps what a call named and put out, and asserts what holds of the whole history. A Commit comes with the table
+    /// before it.
+    fn keep(&mut self, drawn: &Drawn, answer: &Answer, was_cold: bool, table: Option<&Table>) -> Result<(), String> {
         let call = &drawn.call;
         let host = &mut self.host;
         let bound = host.bound();
@@ -255,7 +261,7 @@ impl<D: Device, R: Reference> World<'_, D, R> {
         let Some(model) = self.reference.model() else { return Err("a taken call left no state".to_string()) };
 
         // The table after an accepted Recover is the book's.
-        if let Call::Recover { .. } = call {
+        if let Call::Recover { checkpoint, log, .. } = call {
             if bound {
                 let shown = self.shown.get_or_insert_with(|| host.book.table(&host.params));
                 if let Some(meter) = (0..host.params.meters).find(|&i| shown.entries[i] != model.table.entries[i]) {
@@ -266,6 +272,9 @@ impl<D: Device, R: Reference> World<'_, D, R> {
                 }
                 self.tally.book[0] += 1;
                 self.tally.book[1] += u64::from(!shown.is_empty());
+            }
+            if was_cold {
+                ties::recovered(model, checkpoint, log, self.tally)?;
             }
             self.stores = if was_cold { 1 } else { self.stores + 1 };
             if taken.store == Some(Store::Empty) && bound {
@@ -292,6 +301,9 @@ impl<D: Device, R: Reference> World<'_, D, R> {
                 .map(|sealed::Record { lane, number, transaction, .. }| Line { lane, number, transaction }),
             _ => None,
         };
+        if let (Some(line), Some(before)) = (&line, table) {
+            ties::met(line, before, &model.table, self.tally)?;
+        }
         self.pending = taken.store.map(|store| Pending { store, bytes, line });
         Ok(())
     }
