@@ -411,6 +411,16 @@ def case_open_file(key):
     verdict("a file, " + how, r)
 
 
+def ties(before, text, l, after):
+    """Of two lanes in one second the lowest is shown, whatever the numbers."""
+    for m, *_ in struct.iter_unpack("<HBBi", text[8:]):
+        held = before.get(m)
+        if held and held.stamp == struct.unpack("<Q", text[:8])[0] and held.lane != l:
+            shown = after.get(m)
+            same(f"meter {m} in a tie of lanes {l} and {held.lane}, the lane", shown and shown.lane, min(l, held.lane))
+            seen["a tie of lanes, " + ("the write wins" if l < held.lane else "the entry stays")] += 1
+
+
 def case_enter(key):
     """Few stamps, lanes and numbers, so that each of them decides."""
     t, l, i, text = table(), lane(), u64(), transaction()
@@ -427,6 +437,8 @@ def case_enter(key):
     after = given if answer else model.table_text(model.enter(t, text, l, i))
     lent, s = Lent(given), Lent(text)
     same("the answer to entering", enter(*lent.pair, *s.pair, l, i), answer)
+    if not answer:
+        ties(t, text, l, model.table_of(lent.space.raw[:lent.n]) or {})
     lent.holds("the table", after)
     s.holds("the transaction")
     seen["entering is refused" if answer else "entering changes the table" if after != given else "entering changes nothing"] += 1
@@ -439,7 +451,7 @@ CASES = ((case_prepare, 2), (case_put_record, 28), (case_open_record, 31), (case
 DUE = ("a key is taken", "a key is refused", "sealing a record answers 0", "sealing a record answers 3", "sealing a record answers 4",
        "sealing a record answers 5", "a record, whole opens", "a record in a log opens", "a record in a log does not open",
        "sealing a file answers 0", "sealing a file answers 3", "sealing a file answers 4", "a file, whole opens", "entering is refused",
-       "entering changes the table", "entering changes nothing",
+       "entering changes the table", "entering changes nothing", "a tie of lanes, the write wins", "a tie of lanes, the entry stays",
        *(f"bad text, {how}" for how in ("repeated", "descending", "code", "spare", "meter", "none", "many", "shorter", "longer", "random")),
        *(f"bad table, {how}" for how in ("present", "absent", "code", "lane", "zero", "stray", "shorter", "longer")),
        *(f"a record, {how} does not open" for how in ("cut", "longer", "flipped", "other key", "random", "bad text", "lane", "n", "trailer",
