@@ -104,7 +104,7 @@ module _ (key : List ℕ) (x : Vault) (log : List ℕ) (t : Table) (m : ℕ) (ro
           where
             go : EntersFrom key x before m e ⊎ (i .opened ≡ r) → EntersFrom key x before m e
             go (inl k) = k
-            go (inr q) = clash (sym p ∙ not-past (i .opened) q (i .aboveR) (i .notAboveV))
+            go (inr q) = let a = i .aboveR in let v = i .notAboveV in clash (sym p ∙ not-past (i .opened) q (omega arith) (omega arith))
 
     -- it enters
     come : passedOver x r ≡ false → {was is then : Entry} → Holds (r .text) (r .lane) (r .number) m is then → LatestAmong (EntersFrom key x before m) was is
@@ -117,13 +117,15 @@ module _ (key : List ℕ) (x : Vault) (log : List ℕ) (t : Table) (m : ℕ) (ro
         to e (inr q) =
             let low = leb (r .number) (at (x .r) (r .lane)) in
             let high = ltb (at (x .v) (r .lane)) (r .number) in
+            let a = leb-false (r .number) (at (x .r) (r .lane)) (or-left low high p) in
+            let v = ltb-false (at (x .v) (r .lane)) (r .number) (or-right low high p) in
             record {
               bytes = b;
               opened = r;
               among = Memᴰ·append-right before (List·Memᴰ·head refl);
               opens = opened;
-              aboveR = leb-false _ _ (or-left low high p);
-              notAboveV = ltb-false _ _ (or-right low high p);
+              aboveR = omega arith;
+              notAboveV = omega arith;
               writes = q;
             }
 
