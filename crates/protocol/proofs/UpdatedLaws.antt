@@ -53,7 +53,7 @@ module _ (key : List ℕ) (x : Vault) (log : List ℕ) (t : Table) (m : ℕ) (ro
     long : length (g .table .entries) ≡ length (t .entries)
     latest : LatestAmong (EntersFrom key x before m) (held t m) (held (g .table) m)
 
-  -- one record more
+  -- the record at the offset
   abbrev bytesAt : Reading → List ℕ
   bytesAt g = take (wholeLen (drop (g .offset) log)) (drop (g .offset) log)
 

@@ -44,11 +44,11 @@ pub record EntersFrom (key : List ℕ) (x : Vault) (records : List (List ℕ)) (
   pub writes : Writes opened m e
 
 pub record Updated : Type 0 where
-  -- "old tables stay valid as they are": such a checkpoint is never turned down, and the log rules begin with its table
+  -- "old tables stay valid as they are": such a checkpoint is not what is turned down, and the log rules begin with its table
   pub old-checkpoint-is-read : (c : State) (seal : ℕ) (t : Table) (log : List ℕ) → valid c ≡ true → 0 < c .vault .s → seal < 2 ^ 64 → CanonicalTable t
       → readFrom (aesGcm (c .key)) (c .vault) (checkpointOf c seal t) log ≡ replay (aesGcm (c .key)) (c .vault) t log
   -- "an entry already won is compared by the new order from then on": where the recovery is accepted, a meter has the latest of the checkpoint's entry
-  -- and of all that the records of the log write to it
+  -- and of all that the records of the log write to it, but for those that are passed over
   pub compared-in-recover : (c : State) (seal : ℕ) (t : Table) (log : List ℕ) (room : ℕ) → c .phase ≡ F.Cold → 0 < c .vault .s → seal < 2 ^ 64 → CanonicalTable t
       → isTaken (recover c (checkpointOf c seal t) log room .said) ≡ true → (m : ℕ) → m < meters
       → LatestAmong (EntersFrom (c .key) (c .vault) (recordsIn log) m) (held t m) (held (recover c (checkpointOf c seal t) log room .state .table) m)
