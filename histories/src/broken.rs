@@ -279,8 +279,15 @@ fn caught(fault: Fault) {
     assert!(failure.is_some(), "{fault:?} passes");
 }
 
-/// A fault on both sides: caught by what holds of whole histories, in these words. Other words may come first.
+/// A fault on both sides: caught by what holds of whole histories, and first in these words.
 fn caught_alone(fault: Fault, says: &str) {
+    let failure = first_failure(2000, |seed, tally| run(Broken::new(fault), Broken::new(fault), seed, 400, tally));
+    let Some(failure) = failure else { panic!("{fault:?} on both sides passes") };
+    assert!(failure.contains(says), "{fault:?} on both sides: {failure}");
+}
+
+/// The same in some history, where other words come first.
+fn caught_too(fault: Fault, says: &str) {
     let failure = first_failure(2000, |seed, tally| {
         let ran = run(Broken::new(fault), Broken::new(fault), seed, 400, tally);
         if ran.as_ref().is_err_and(|failure| !failure.contains(says)) { Ok(()) } else { ran }
@@ -327,7 +334,8 @@ fn a_fault_on_both_sides_is_caught_by_what_is_known() {
     caught_alone(Fault::LaneZeroAlone, "the state's numbers are not the vault's");
     caught_alone(Fault::CountsFromService, "lowers a vault number");
     caught_alone(Fault::Uncovered, "");
-    caught_alone(Fault::NotEntered, "is not as in the book");
+    caught_alone(Fault::NotEntered, "a tie is not the lowest lane's");
+    caught_too(Fault::NotEntered, "is not as in the book");
     caught_alone(Fault::VisibleFirst, "a card that kept faith");
     caught_alone(Fault::OneCheckpoint, "a recovery of");
     caught_alone(Fault::VisibleLeft, "a recovery of");
