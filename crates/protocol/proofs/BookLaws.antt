@@ -10,14 +10,14 @@ use lib.ListN.{getD}
 use Rattle.transaction.specs.Transaction.{meters}
 use Rattle.table.specs.declared.Entry.{Entry}
 use Rattle.table.specs.declared.Table.{Table}
-use Rattle.table.specs.Table.{noEntry}
+use Rattle.table.specs.Table.{noEntry, entryFor}
 use Rattle.table.specs.Canonical.{Canonical, absent, present}
 use Rattle.table.proofs.OrderLaws.{later-same}
 use Rattle.table.proofs.EnteredLaws.{written-times}
 use Rattle.sealed.specs.Record.{Opened}
 use Rattle.protocol.specs.LatestOf.{LatestOf, unwritten, writtenBy}
 use Rattle.protocol.proofs.Basis.{write}
-use Rattle.protocol.proofs.Latest.{entryFor, seen, seen-here, cell, In, Full, Single}
+use Rattle.protocol.proofs.Latest.{seen, seen-here, cell, In, Full, Single}
 
 -- the latest of a book has at each meter the latest write to it
 pub full-latest : (b : List Opened) (t : Table) → Full b t → (m : ℕ) → m < meters → LatestOf b m (getD (t .entries) m noEntry)

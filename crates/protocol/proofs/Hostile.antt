@@ -6,30 +6,27 @@
 -- Assumes nothing.
 use Prim.Native.Nat.{ℕ, suc, _≤_, _<_}
 use mathlib.Core.Path.{_≡_, refl, ap, subst, _∙_}
-use mathlib.Core.Bool.{true, false}
+use mathlib.Core.Bool.{true}
 use mathlib.Core.Option.{some}
 use mathlib.Core.Logic.{_⊎_, inl, inr}
-use mathlib.Core.List.{List, [], List·Memᴰ, List·Memᴰ·head, List·Memᴰ·tail, List·Memᴰ·not-nil}
+use mathlib.Core.List.{List, List·Memᴰ, List·Memᴰ·head, List·Memᴰ·tail, List·Memᴰ·not-nil}
 use native.Mathlib.Omega.{arith}
 use native.Mathlib.Decide.{decLt, decLe}
-use lib.Dec.{leb, ltb}
-use lib.ListN.{set, length, take, drop, length-set, drop-of-length-le, List·getD-eq-default}
-use borrow.Author.Tests.{leb-false, ltb-false}
+use lib.ListN.{set, length, take, drop, length-set, List·getD-eq-default}
 use Rattle.octets.specs.Lists.{at}
-use Rattle.octets.proofs.BoolLaws.{or-left, or-right}
 use Rattle.table.specs.declared.Table.{Table}
 use Rattle.table.specs.Table.{lanes}
 use Rattle.sealed.specs.Aead.{aesGcm}
 use Rattle.sealed.specs.Record.{Opened, wholeLen, openRecord}
 use Rattle.sealed.specs.Log.{recordAt, recordsTo, recordsIn}
-use Rattle.sealed.proofs.LogTrip.{at-opens, records-at, records-nil}
+use Rattle.sealed.proofs.LogTrip.{at-opens, records-at}
 use Rattle.protocol.specs.declared.Vault.{Vault}
 use Rattle.protocol.specs.Replay.{Reading, reading, passedOver, behind, replay}
 use Rattle.protocol.proofs.Basis.{Writable, withRecord}
 use Rattle.protocol.proofs.Lanes.{Put, same, other, put}
 use Rattle.protocol.proofs.Latest.{In, Part, Full, Upto, Single, sound-enter, cover-enter, canon-enter, cover-mono}
 use Rattle.protocol.proofs.MissingLaws.{Reached}
-use Rattle.protocol.proofs.ReadingLaws.{passing, entering, kept-replay}
+use Rattle.protocol.proofs.ReadingLaws.{passing, entering, none-left, kept-replay}
 
 -- every number above R and not above V is in the book, under epoch e
 abbrev pub Whole : List ℕ → List ℕ → ℕ → List Opened → Type 0
@@ -101,19 +98,12 @@ module _ (key : List ℕ) (x : Vault) (book : List Opened) (sealed : Opened → 
     passes : (n : ℕ) (g : Reading) (r : Opened) → Came (suc n) g → recordAt (aesGcm key) log (g .offset) ≡ some r → passedOver x r ≡ true → Came n (passing g r)
     passes n g r h e p = (h .0, first n g (h .1) r e .1)
 
-    enters : (n : ℕ) (g : Reading) (r : Opened) → Came (suc n) g → recordAt (aesGcm key) log (g .offset) ≡ some r → passedOver x r ≡ false → r .number ≡ suc (at (g .last) (r .lane)) → Came n (entering g r)
-    unfolding passedOver
-    enters n g r h e p q =
-        let low = leb (r .number) (at (x .r) (r .lane)) in
-        let high = ltb (at (x .v) (r .lane)) (r .number) in
-        let was = first n g (h .1) r e in
-        (took (g .last) (g .table) r (h .0) (was .0) (leb-false _ _ (or-left low high p)) (ltb-false _ _ (or-right low high p)) q, was .1)
+    enters : (n : ℕ) (g : Reading) (r : Opened) → Came (suc n) g → recordAt (aesGcm key) log (g .offset) ≡ some r → at (x .r) (r .lane) < r .number → r .number ≤ at (x .v) (r .lane)
+        → r .number ≡ suc (at (g .last) (r .lane)) → Came n (entering g r)
+    enters n g r h e above upto q = let was = first n g (h .1) r e in (took (g .last) (g .table) r (h .0) (was .0) above upto q, was .1)
 
     ends : (n : ℕ) (g : Reading) → Came (suc n) g → length log ≤ g .offset → Came n g
-    ends n g h p =
-        let end : drop (g .offset) log ≡ [] = drop-of-length-le log p in
-        let none-left : recordsTo n (drop (g .offset) log) ≡ [] = ap (recordsTo n) end ∙ records-nil n in
-        (h .0, λ b r m. absurd (List·Memᴰ·not-nil (rw none-left at m)))
+    ends n g h p = (h .0, λ b r m. absurd (List·Memᴰ·not-nil (rw (none-left log (g .offset) n p) at m)))
 
   -- a lane with R < V has reached V, and any other is there already
   reached : (last : List ℕ) → ((l : ℕ) → at (x .r) l ≤ at last l) → ((l : ℕ) → l < lanes → Reached x last l) → (l : ℕ) → at (x .v) l ≤ at last l

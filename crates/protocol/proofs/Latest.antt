@@ -13,13 +13,13 @@ use mathlib.Core.Logic.{_⊎_, inl, inr}
 use mathlib.Core.List.{List, [], _∷_, _++_, List·Memᴰ, List·Memᴰ·head, List·Memᴰ·not-nil, List·Memᴰ·append-cases, List·Memᴰ·eq-of-singleton, Memᴰ·append-left, Memᴰ·append-right}
 use native.Mathlib.Omega.{arith}
 use native.Mathlib.Decide.{decLt}
-use lib.ListN.{getD, set, length, List·getD-eq-default}
+use lib.ListN.{set, length, List·getD-eq-default}
 use Rattle.octets.specs.Lists.{at}
 use Rattle.transaction.specs.Transaction.{meters}
 use Rattle.table.specs.declared.Entry.{Entry}
 use Rattle.table.specs.declared.Table.{Table}
 use Rattle.table.specs.Order.{later, latest}
-use Rattle.table.specs.Table.{noEntry, emptyTable}
+use Rattle.table.specs.Table.{noEntry, entryFor, emptyTable}
 use Rattle.table.specs.Written.{newest}
 use Rattle.table.specs.Canonical.{present, CanonicalTable}
 use Rattle.table.proofs.OrderLaws.{later-irrefl, not-later-trans, latest-either, latest-absent, latest-top}
@@ -29,10 +29,6 @@ use Rattle.protocol.proofs.Basis.{write, withRecord, Writable}
 use Rattle.protocol.proofs.Lanes.{Put, same, other, put}
 
 -- ---- one meter
-
--- the entry of a meter
-abbrev pub entryFor : Table → ℕ → Entry
-entryFor t m = getD (t .entries) m noEntry
 
 -- an entry with a reading; none where it has none
 abbrev pub seen : Entry → Option Entry

@@ -2,20 +2,22 @@
 -- changes. So what holds of how far a reading has come, with so many records left at the most, and is kept on each of these ways, holds at its end.
 -- Assumes nothing.
 use Prim.Native.Nat.{ℕ, zero, suc, _≤_, _<_}
-use mathlib.Core.Path.{_≡_, refl, subst}
+use mathlib.Core.Path.{_≡_, refl, ap, subst, _∙_}
 use mathlib.Core.Bool.{Bool, true, false, cond, not}
 use mathlib.Core.Option.{Option, none, some}
-use mathlib.Core.List.{List}
+use mathlib.Core.List.{List, []}
 use native.Mathlib.Omega.{arith}
-use lib.Dec.{ltb, eqb}
-use lib.ListN.{length, set}
-use borrow.Author.Tests.{ltb-false, eqb-true}
+use lib.Dec.{leb, ltb, eqb}
+use lib.ListN.{length, drop, set, drop-of-length-le}
+use borrow.Author.Tests.{leb-false, ltb-false, eqb-true}
 use Rattle.octets.specs.Lists.{at}
+use Rattle.octets.proofs.BoolLaws.{or-left, or-right}
 use Rattle.table.specs.declared.Table.{Table}
 use Rattle.table.specs.Table.{lanes, entered}
 use Rattle.sealed.specs.Aead.{Aead}
 use Rattle.sealed.specs.Record.{Opened}
-use Rattle.sealed.specs.Log.{recordAt}
+use Rattle.sealed.specs.Log.{recordAt, recordsTo}
+use Rattle.sealed.proofs.LogTrip.{records-nil}
 use Rattle.protocol.specs.declared.Vault.{Vault}
 use Rattle.protocol.specs.Replay.{Reading, Read, stopped, reading, passedOver, orStop, behind, stepOpened, step, stepOn, steps, ended, replay}
 use Rattle.protocol.proofs.MissingLaws.{Reached, ends-reached}
@@ -31,9 +33,21 @@ entering g r = record { offset = behind g r; last = set (g .last) (r .lane) (r .
 abbrev pub atFirst : Vault → Table → Reading
 atFirst x t = record { offset = 0; last = x .r; table = t }
 
+-- a record that is not passed over is above R and not above V
+not-passed : (x : Vault) (r : Opened) → passedOver x r ≡ false → (at (x .r) (r .lane) < r .number) × (r .number ≤ at (x .v) (r .lane))
+unfolding passedOver
+not-passed x r p =
+    let low = leb (r .number) (at (x .r) (r .lane)) in
+    let high = ltb (at (x .v) (r .lane)) (r .number) in
+    (leb-false _ _ (or-left low high p), ltb-false _ _ (or-right low high p))
+
+-- behind the end of a log no record is left
+pub none-left : (log : List ℕ) (offset n : ℕ) → length log ≤ offset → recordsTo n (drop offset log) ≡ []
+none-left log offset n p = ap (recordsTo n) (drop-of-length-le log p) ∙ records-nil n
+
 module _ (a : Aead) (x : Vault) (log : List ℕ) (P : ℕ → Reading → Type 0)
     (passes : (n : ℕ) (g : Reading) (r : Opened) → P (suc n) g → recordAt a log (g .offset) ≡ some r → passedOver x r ≡ true → P n (passing g r))
-    (enters : (n : ℕ) (g : Reading) (r : Opened) → P (suc n) g → recordAt a log (g .offset) ≡ some r → passedOver x r ≡ false → r .number ≡ suc (at (g .last) (r .lane)) → P n (entering g r))
+    (enters : (n : ℕ) (g : Reading) (r : Opened) → P (suc n) g → recordAt a log (g .offset) ≡ some r → at (x .r) (r .lane) < r .number → r .number ≤ at (x .v) (r .lane) → r .number ≡ suc (at (g .last) (r .lane)) → P n (entering g r))
     (ends : (n : ℕ) (g : Reading) → P (suc n) g → length log ≤ g .offset → P n g) where
   -- with n records left at the most; of a reading that was stopped nothing is said
   Kept : ℕ → Read → Type 0
@@ -57,7 +71,7 @@ module _ (a : Aead) (x : Vault) (log : List ℕ) (P : ℕ → Reading → Type 0
   kept-opened n g (some r) e h =
       kept-cond n (passedOver x r) _ _ (λ p. passes n g r h e p)
       (λ p. kept-stop n (eqb (r .epoch) (x .e)) _ _ _
-      (λ _. kept-stop n (eqb (r .number) (suc (at (g .last) (r .lane)))) _ _ _ (λ q. enters n g r h e p (eqb-true _ _ q))))
+      (λ _. kept-stop n (eqb (r .number) (suc (at (g .last) (r .lane)))) _ _ _ (λ q. let i = not-passed x r p in enters n g r h e (i .0) (i .1) (eqb-true _ _ q))))
 
   -- a record more
   kept-on : (n : ℕ) (d : Read) → Kept (suc n) d → Kept n (stepOn a x log d)

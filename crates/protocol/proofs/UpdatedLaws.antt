@@ -8,17 +8,17 @@ use mathlib.Core.List.{List, [], _∷_, _++_, append-assoc, append-nil, List·Me
 use mathlib.Core.Logic.{_⊎_, inl, inr}
 use mathlib.Core.Option.{Option, none, some}
 use native.Mathlib.Omega.{arith}
-use lib.Dec.{leb, ltb}
-use lib.ListN.{length, take, drop, drop-of-length-le}
-use borrow.Author.Tests.{leb-false, ltb-false, lt-leb, le-ltb, eq-eqb, ne-eqb, not-false}
+use lib.ListN.{length, take, drop}
+use borrow.Author.Tests.{lt-leb, le-ltb, eq-eqb, ne-eqb, not-false}
 use Rattle.octets.specs.Lists.{at}
-use Rattle.octets.proofs.BoolLaws.{or-left, or-right, and-left}
+use Rattle.octets.proofs.BoolLaws.{and-left}
 use Rattle.transaction.specs.Transaction.{meters}
 use Rattle.table.specs.declared.Entry.{Entry}
 use Rattle.table.specs.declared.Table.{Table}
+use Rattle.table.specs.Table.{entryFor}
 use Rattle.table.specs.Written.{written}
 use Rattle.table.specs.Canonical.{CanonicalTable}
-use Rattle.table.specs.Claim.{held, Holds, LatestAmong}
+use Rattle.table.specs.Claim.{Holds, LatestAmong}
 use Rattle.table.proofs.OrderLaws.{clash}
 use Rattle.table.proofs.EnteredLaws.{length-entered}
 use Rattle.table.proofs.AnyTable.{entered-holds, among-none, among-same, And, among-more}
@@ -27,7 +27,7 @@ use Rattle.sealed.specs.Record.{Opened, wholeLen, openRecord}
 use Rattle.sealed.specs.Log.{recordAt, recordsTo, recordsIn}
 use Rattle.sealed.proofs.RecordTrip.{opens-legal}
 use Rattle.sealed.proofs.FileLaws.{file-opens}
-use Rattle.sealed.proofs.LogTrip.{at-opens, records-at, records-nil}
+use Rattle.sealed.proofs.LogTrip.{at-opens, records-at}
 use Rattle.protocol.specs.States.{valid, isNothing}
 use Rattle.protocol.specs.Said.{Answered}
 use Rattle.protocol.specs.Replay.{Reading, Read, stopped, reading, passedOver, behind, orStop, replay}
@@ -41,7 +41,7 @@ use Rattle.protocol.specs.declared.Phase.the-variants as F
 use Rattle.protocol.proofs.Walks.{through}
 use Rattle.protocol.proofs.VaultLaws.{state-fine}
 use Rattle.protocol.proofs.TallyLaws.{cold-first}
-use Rattle.protocol.proofs.ReadingLaws.{passing, entering, kept-replay}
+use Rattle.protocol.proofs.ReadingLaws.{passing, entering, none-left, kept-replay}
 
 -- ---- the log rules
 
@@ -51,7 +51,7 @@ module _ (key : List ℕ) (x : Vault) (log : List ℕ) (t : Table) (m : ℕ) (ro
     before : List (List ℕ)
     all : recordsIn log ≡ before ++ recordsTo n (drop (g .offset) log)
     long : length (g .table .entries) ≡ length (t .entries)
-    latest : LatestAmong (EntersFrom key x before m) (held t m) (held (g .table) m)
+    latest : LatestAmong (EntersFrom key x before m) (entryFor t m) (entryFor (g .table) m)
 
   -- the record at the offset
   abbrev bytesAt : Reading → List ℕ
@@ -107,27 +107,21 @@ module _ (key : List ℕ) (x : Vault) (log : List ℕ) (t : Table) (m : ℕ) (ro
             go (inr q) = let a = i .aboveR in let v = i .notAboveV in clash (sym p ∙ not-past (i .opened) q (omega arith) (omega arith))
 
     -- it enters
-    come : passedOver x r ≡ false → {was is then : Entry} → Holds (r .text) (r .lane) (r .number) m is then → LatestAmong (EntersFrom key x before m) was is
-        → LatestAmong (EntersFrom key x (before ++ (b ∷ [])) m) was then
-    unfolding passedOver
-    come p h l = among-same to from (among-more (r .text) (r .lane) (r .number) m (EntersFrom key x before m) l h)
+    come : at (x .r) (r .lane) < r .number → r .number ≤ at (x .v) (r .lane) → {was is then : Entry} → Holds (r .text) (r .lane) (r .number) m is then
+        → LatestAmong (EntersFrom key x before m) was is → LatestAmong (EntersFrom key x (before ++ (b ∷ [])) m) was then
+    come above upto h l = among-same to from (among-more (r .text) (r .lane) (r .number) m (EntersFrom key x before m) l h)
       where
         to : (e : Entry) → And (r .text) (r .lane) (r .number) m (EntersFrom key x before m) e → EntersFrom key x (before ++ (b ∷ [])) m e
         to e (inl i) = wider e i
-        to e (inr q) =
-            let low = leb (r .number) (at (x .r) (r .lane)) in
-            let high = ltb (at (x .v) (r .lane)) (r .number) in
-            let a = leb-false (r .number) (at (x .r) (r .lane)) (or-left low high p) in
-            let v = ltb-false (at (x .v) (r .lane)) (r .number) (or-right low high p) in
-            record {
-              bytes = b;
-              opened = r;
-              among = Memᴰ·append-right before (List·Memᴰ·head refl);
-              opens = opened;
-              aboveR = omega arith;
-              notAboveV = omega arith;
-              writes = q;
-            }
+        to e (inr q) = record {
+          bytes = b;
+          opened = r;
+          among = Memᴰ·append-right before (List·Memᴰ·head refl);
+          opens = opened;
+          aboveR = omega arith;
+          notAboveV = omega arith;
+          writes = q;
+        }
 
         from : (e : Entry) → EntersFrom key x (before ++ (b ∷ [])) m e → And (r .text) (r .lane) (r .number) m (EntersFrom key x before m) e
         from e i = go (split e i)
@@ -144,36 +138,34 @@ module _ (key : List ℕ) (x : Vault) (log : List ℕ) (t : Table) (m : ℕ) (ro
     latest = past (h .before) (bytesAt g) r (at-opens (aesGcm key) log (g .offset) r e) p (h .latest);
   }
 
-  enters : (n : ℕ) (g : Reading) (r : Opened) → Came (suc n) g → recordAt (aesGcm key) log (g .offset) ≡ some r → passedOver x r ≡ false → r .number ≡ suc (at (g .last) (r .lane)) → Came n (entering g r)
-  enters n g r h e p q =
+  enters : (n : ℕ) (g : Reading) (r : Opened) → Came (suc n) g → recordAt (aesGcm key) log (g .offset) ≡ some r → at (x .r) (r .lane) < r .number → r .number ≤ at (x .v) (r .lane)
+      → r .number ≡ suc (at (g .last) (r .lane)) → Came n (entering g r)
+  enters n g r h e above upto q =
       let o = at-opens (aesGcm key) log (g .offset) r e in
       let k = h .long in
       record {
         before = h .before ++ (bytesAt g ∷ []);
         all = all-more n g r h e;
         long = length-entered (g .table) (r .text) (r .lane) (r .number) ∙ h .long;
-        latest = come (h .before) (bytesAt g) r o p (entered-holds (g .table) (r .text) (r .lane) (r .number) m (opens-legal (aesGcm key) (bytesAt g) r o .text) (omega arith)) (h .latest);
+        latest = come (h .before) (bytesAt g) r o above upto (entered-holds (g .table) (r .text) (r .lane) (r .number) m (opens-legal (aesGcm key) (bytesAt g) r o .text) (omega arith)) (h .latest);
       }
 
   ends : (n : ℕ) (g : Reading) → Came (suc n) g → length log ≤ g .offset → Came n g
-  ends n g h p =
-      let end : drop (g .offset) log ≡ [] = drop-of-length-le log p in
-      let none-left : (k : ℕ) → recordsTo k (drop (g .offset) log) ≡ [] = λ k. ap (recordsTo k) end ∙ records-nil k in
-      record {
-        before = h .before;
-        all = h .all ∙ ap (λ (l : List (List ℕ)). h .before ++ l) (none-left (suc n) ∙ sym (none-left n));
-        long = h .long;
-        latest = h .latest;
-      }
+  ends n g h p = record {
+    before = h .before;
+    all = h .all ∙ ap (λ (l : List (List ℕ)). h .before ++ l) (none-left log (g .offset) (suc n) p ∙ sym (none-left log (g .offset) n p));
+    long = h .long;
+    latest = h .latest;
+  }
 
-  nothing-yet : LatestAmong (EntersFrom key x [] m) (held t m) (held t m)
-  nothing-yet = among-same (λ e w. absurd w) (λ e i. List·Memᴰ·not-nil (i .among)) (among-none (held t m))
+  nothing-yet : LatestAmong (EntersFrom key x [] m) (entryFor t m) (entryFor t m)
+  nothing-yet = among-same (λ e w. absurd w) (λ e i. List·Memᴰ·not-nil (i .among)) (among-none (entryFor t m))
 
-  replay-latest : (g : Reading) → replay (aesGcm key) x t log ≡ reading g → LatestAmong (EntersFrom key x (recordsIn log) m) (held t m) (held (g .table) m)
+  replay-latest : (g : Reading) → replay (aesGcm key) x t log ≡ reading g → LatestAmong (EntersFrom key x (recordsIn log) m) (entryFor t m) (entryFor (g .table) m)
   unfolding recordsIn recordsTo
   replay-latest g e =
       let k = kept-replay (aesGcm key) x log Came passes enters ends t g (record { before = []; all = refl; long = refl; latest = nothing-yet }) e .0 in
-      subst (λ (l : List (List ℕ)). LatestAmong (EntersFrom key x l m) (held t m) (held (g .table) m)) (sym (k .all ∙ append-nil (k .before))) (k .latest)
+      subst (λ (l : List (List ℕ)). LatestAmong (EntersFrom key x l m) (entryFor t m) (entryFor (g .table) m)) (sym (k .all ∙ append-nil (k .before))) (k .latest)
 
 -- ---- the checkpoint
 
@@ -190,7 +182,7 @@ old-file c seal t log v s n canonical =
 module _ (c : State) (seal : ℕ) (t : Table) (log : List ℕ) (s : 0 < c .vault .s) (n : seal < 2 ^ 64) (canonical : CanonicalTable t) (m : ℕ) (room : m < meters) where
   -- what is asked of an answer
   abbrev Compared : Answered → Type 0
-  Compared a = LatestAmong (EntersFrom (c .key) (c .vault) (recordsIn log) m) (held t m) (held (a .state .table) m)
+  Compared a = LatestAmong (EntersFrom (c .key) (c .vault) (recordsIn log) m) (entryFor t m) (entryFor (a .state .table) m)
 
   read-compared : (r : Read) → replay (aesGcm (c .key)) (c .vault) t log ≡ r → isTaken (recoverRead c r .said) ≡ true → Compared (recoverRead c r)
   unfolding recoverRead recovered isTaken
@@ -213,7 +205,7 @@ module _ (c : State) (bytes : List ℕ) where
   -- a record that opens, and what each meter then has
   abbrev Committed : Answered → Type 0
   Committed a = (r : Opened) × (openRecord (aesGcm (c .key)) bytes ≡ some r)
-      × ((m : ℕ) → m < length (c .table .entries) → Holds (r .text) (r .lane) (r .number) m (held (c .table) m) (held (a .state .table) m))
+      × ((m : ℕ) → m < length (c .table .entries) → Holds (r .text) (r .lane) (r .number) m (entryFor (c .table) m) (entryFor (a .state .table) m))
 
   opened-commits : (o : Option Opened) → openRecord (aesGcm (c .key)) bytes ≡ o → isTaken (commitOpened c o .said) ≡ true → Committed (commitOpened c o)
   unfolding commitOpened committed isTaken

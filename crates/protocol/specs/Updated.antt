@@ -13,8 +13,9 @@ use Rattle.octets.specs.Lists.{at}
 use Rattle.transaction.specs.Transaction.{meters}
 use Rattle.table.specs.declared.Entry.{Entry}
 use Rattle.table.specs.declared.Table.{Table}
+use Rattle.table.specs.Table.{entryFor}
 use Rattle.table.specs.Canonical.{CanonicalTable}
-use Rattle.table.specs.Claim.{held, Holds, LatestAmong}
+use Rattle.table.specs.Claim.{Holds, LatestAmong}
 use Rattle.sealed.specs.Aead.{aesGcm}
 use Rattle.sealed.specs.Record.{Opened, openRecord}
 use Rattle.sealed.specs.Checkpoint.{fileBytes}
@@ -51,8 +52,8 @@ pub record Updated : Type 0 where
   -- and of all that the records of the log write to it, but for those that are passed over
   pub compared-in-recover : (c : State) (seal : ℕ) (t : Table) (log : List ℕ) (room : ℕ) → c .phase ≡ F.Cold → 0 < c .vault .s → seal < 2 ^ 64 → CanonicalTable t
       → isTaken (recover c (checkpointOf c seal t) log room .said) ≡ true → (m : ℕ) → m < meters
-      → LatestAmong (EntersFrom (c .key) (c .vault) (recordsIn log) m) (held t m) (held (recover c (checkpointOf c seal t) log room .state .table) m)
+      → LatestAmong (EntersFrom (c .key) (c .vault) (recordsIn log) m) (entryFor t m) (entryFor (recover c (checkpointOf c seal t) log room .state .table) m)
   -- and in service, where a Commit is taken, the later of what it had and of what the record writes to it
   pub compared-in-commit : (c : State) (bytes : List ℕ) → isTaken (commit c bytes .said) ≡ true
       → (r : Opened) × (openRecord (aesGcm (c .key)) bytes ≡ some r)
-      × ((m : ℕ) → m < length (c .table .entries) → Holds (r .text) (r .lane) (r .number) m (held (c .table) m) (held (commit c bytes .state .table) m))
+      × ((m : ℕ) → m < length (c .table .entries) → Holds (r .text) (r .lane) (r .number) m (entryFor (c .table) m) (entryFor (commit c bytes .state .table) m))
