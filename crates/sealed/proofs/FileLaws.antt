@@ -87,20 +87,6 @@ module _ (o f : List ℕ) where
   unfolding fileAnswer filePut
   file-done h e = (rw (le-ltb (length o) fileLen h), rw (le-ltb (length o) fileLen h) e)
 
--- the text that is sealed is the table's
-pub body-text : (t : Table) (z b : List ℕ) → length (t .entries) ≡ meters → length z ≡ tableLen + tagLen → b ≡ over (tableText t) z → take tableLen b ≡ tableText t
-body-text t z b n l e =
-    let lt = length-table t n in
-    ap (take tableLen) (e ∙ over-room (tableText t) z (omega arith)) ∙ take-at (tableText t) (drop (length (tableText t)) z) tableLen lt
-
--- and what is put in its frame is the file
-pub file-put : (a : Aead) (version seal : ℕ) (t : Table) (z : List ℕ) {nonce head b : List ℕ} → length (t .entries) ≡ meters → length z ≡ tableLen + tagLen
-    → nonce ≡ fileNonce seal → head ≡ fileHead version seal → b ≡ over (tableText t) z → framed a nonce head (take tableLen b) ≡ fileBytes a version seal t
-unfolding fileBytes
-file-put a version seal t z {nonce} {head} {b} n l en eh eb =
-    ap₂ (λ (u v : List ℕ). framed a u v (take tableLen b)) en eh
-    ∙ ap (framed a (fileNonce seal) (fileHead version seal)) (body-text t z b n l eb)
-
 -- ---- opening
 
 only-some : (b : Bool) (x p : List ℕ) → onlyIf b x ≡ some p → x ≡ p

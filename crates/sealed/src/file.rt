@@ -17,8 +17,6 @@ use table::Table;
 pub const FILE_KIND: u8 = 2;
 
 pub const FILE_LEN: usize = TABLE_LEN + FRAME_LEN;
-// A table's text with its tag.
-const BODY_LEN: usize = TABLE_LEN + gcm::TAG_LEN;
 
 // What a file's head says, where the file opens.
 pub enum FileHead {
@@ -130,14 +128,13 @@ pub fn seal_file<'a>(
     if out.len() < FILE_LEN {
         return FilePut::Short(FILE_LEN);
     }
-    let mut body = [0u8; BODY_LEN];
-    table::put_text(t, &mut body);
+    let e = HEAD_LEN + TABLE_LEN;
+    table::put_text(t, &mut out[HEAD_LEN..e]);
     frame::put_framed(
         w,
         m,
         nonce_of(FILE_KIND, 0, seal),
         head_of(version, seal),
-        &mut body,
         TABLE_LEN,
         out,
     );

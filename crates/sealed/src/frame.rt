@@ -1,13 +1,12 @@
 // A text in its frame: head, ciphertext, tag, and a trailer with the whole length; and its nonce.
 ghost use mathlib.Core.Path.{_≡_};
 ghost use Prim.Native.Nat.{_+_, _-_, _≤_};
-ghost use lib.ListN.{length, take};
+ghost use lib.ListN.{length, take, drop};
 ghost use Rattle.octets.specs.Lists.{putOver};
-ghost use Rattle.gcm.specs.Gcm.{tagLen};
 ghost use Rattle.gcm.specs.Answers.{textPut};
 ghost use Rattle.sealed.specs.Aead.{preparedBy};
 ghost use Rattle.sealed.specs.Nonce.{nonceOf};
-ghost use Rattle.sealed.specs.Frame.{frameLen, framed, unframed, isSome, isText};
+ghost use Rattle.sealed.specs.Frame.{headLen, frameLen, framed, unframed, isSome, isText};
 use gcm::Opening;
 use octets::little;
 
@@ -71,24 +70,22 @@ pub fn unframe<'a>(
     is_text(gcm::open_with(w, m, nonce, &s[..HEAD_LEN], &s[HEAD_LEN..e], out))
 }
 
-// Seals the first n bytes of body in their place, and puts them in their frame at the start of out.
+// Seals the n bytes of text that stand in out from byte 20 on, in their place, and puts their frame around them. The
+// cipher is lent the part of out behind the head, and no more.
 pub fn put_framed<'a>(
     w: &'a [u32; 44],
     m: &'a [u64; 1024],
     nonce: [u8; 12],
     head: [u8; HEAD_LEN],
-    body: &mut [u8],
     n: usize,
     out: &mut [u8],
 )
-    requires { ⌜ (n ≤ 65536) × (n + tagLen ≤ length (now body)) × (n + frameLen ≤ length (now out)) ⌝ }
-    ensures { λ _. ⌜ now (out .exit) ≡ putOver (framed (preparedBy (now (w .entry)) (now (m .entry))) nonce head (take n (now (body .entry)))) (now (out .entry)) ⌝ }
+    requires { ⌜ (n ≤ 65536) × (n + frameLen ≤ length (now out)) ⌝ }
+    ensures { λ _. ⌜ now (out .exit) ≡ putOver (framed (preparedBy (now (w .entry)) (now (m .entry))) nonce head (take n (drop headLen (now (out .entry))))) (now (out .entry)) ⌝ }
 {
-    gcm::seal_with(w, m, nonce, &head, body, n);
-    let e = n + gcm::TAG_LEN;
-    let f = HEAD_LEN + e;
-    let trailer = little::bytes4((n + FRAME_LEN) as u32);
     octets::copy(&head, out);
-    octets::copy(&body[..e], &mut out[HEAD_LEN..]);
+    gcm::seal_with(w, m, nonce, &head, &mut out[HEAD_LEN..], n);
+    let f = HEAD_LEN + n + gcm::TAG_LEN;
+    let trailer = little::bytes4((n + FRAME_LEN) as u32);
     octets::copy(&trailer, &mut out[f..]);
 }
