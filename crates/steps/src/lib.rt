@@ -9,6 +9,7 @@ ghost use Rattle.protocol.specs.Said.{shownAs};
 ghost use Rattle.protocol.specs.Steps.{raiseS, raiseN, raiseE, putR, putV, fileStep};
 use protocol::Answer;
 use protocol::Due;
+use protocol::Outcome;
 use protocol::Refusal;
 use protocol::State;
 use protocol::Step;
@@ -157,9 +158,27 @@ pub fn file_step(c: State, next: Due, out: &mut [u8]) -> Answer
         return state::refused(c, Refusal::Length { right: FILE_LEN });
     }
     let key = c.key;
-    let t = c.table;
     let version = s + 1;
     let seal = x.n;
-    put_table(key, version, seal, t, out);
-    state::stored(c, x, next, Store::File, FILE_LEN)
+    let table = c.table;
+    put_table(key, version, seal, table, out);
+    let phase = c.phase;
+    let journal = c.journal;
+    let points = c.points;
+    let held = c.held;
+    let state = State {
+        vault: x,
+        phase,
+        due: next,
+        table,
+        journal,
+        points,
+        held,
+        key,
+    };
+    let outcome = Outcome::Taken {
+        store: Store::File,
+        len: FILE_LEN,
+    };
+    Answer { state, outcome }
 }

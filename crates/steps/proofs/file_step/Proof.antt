@@ -27,15 +27,14 @@ returns-2 c =
 
 returns-3 : tie.Need-returns-3
 returns-3 c =
-    let t = c .before .before .before .put-table in
-    let i = c .before .before .before .before .before .before .before in
-    let a = i .before .before .before .before .args in
-    let p = fileStep (a .c) (length (a .out .now)) (a .next) .put in
+    let put = c .before .before .before .before .before in
+    let roomy = put .before .before .before .before in
+    let start = roomy .before .before .before .before in
+    let a = start .args in
     -- what is known of the table among the parts of the state
-    let g = i .before .before .before .before .good .0 .1 .1 .1 .1 .1 .0 in
-    let n : length (a .c .table .entries) ≡ meters = search (length-of-map, g) in
-    let w = file-taken (a .c) (a .next) (a .out .now) (i .before .if1 .left) (i .if2 .left) n _ _ refl (t .ensures .1) in
-    (ap (λ (y : Answer). shownAs y p) (c .stored .ensures) ∙ w .0, w .1)
+    let known = start .good .0 .1 .1 .1 .1 .1 .0 in
+    let n : length (a .c .table .entries) ≡ meters = search (length-of-map, known) in
+    file-taken (a .c) (a .next) (a .out .now) (roomy .before .if1 .left) (roomy .if2 .left) n _ _ refl (put .put-table .ensures .1)
 
 pub file-step-spec : {M : Type 1} → statement M
 file-step-spec =
@@ -46,7 +45,6 @@ file-step-spec =
     (λ c κs. search needs)
     returns-2
     (λ c. search needs)
-    (λ c κs. search needs)
     (λ c κs. search needs)
     (λ c. search needs)
     returns-3)
