@@ -107,7 +107,7 @@ extern "C" {
  * How many of the requests of document 02 this interface has: each one raises it. The library says its own, so that a program
  * can tell whether header and archive belong together. make lib prints it with a hash of the sources. */
 
-#define PAVILUKO_EDITION 2
+#define PAVILUKO_EDITION 3
 uint64_t paviluko_edition(void);
 
 /* ---- numbers and lengths ---- */
