@@ -65,14 +65,19 @@
  * interrupt, no DMA, no card that is mapped into memory. A call reads its input more than once, and bytes that change
  * between checking and using were never checked. Copy mapped card memory into RAM, and hand over the copy.
  *
+ * OUT HOLDS PLAIN READINGS DURING A CALL. From edition 3 on a record or a file is sealed in `out` itself: its text is
+ * written there and encrypted where it stands, so that no second buffer is needed. When the call returns, what it put out is
+ * sealed. Until then lend RAM that nobody else reads, and no card that is mapped into memory: a power cut within the call
+ * could leave plain readings on it.
+ *
  * POINTERS. The functions want a valid address for each buffer, even for one of length 0; in the paviluko_do_ functions a
  * NULL buffer is one of length 0, whatever length stands beside it. `out` must not overlap another buffer of the same
  * call.
  *
  * MEMORY AND THREADS. There is no heap, no global and no hidden state: the functions are re-entrant, and no pointer
  * outlives its call. State and reply are some 8 KB each and are passed by value, so a call needs stack. Measured
- * (bench/stack.c), state and reply among it: load 27 KB, accept 31, truncate 32, point 40, commit 47, seal 52, checkpoint
- * 72, recover 105, the questions at the end 15; from_bus, which has neither, less than 1. PAVILUKO_STACK leaves room beyond
+ * (bench/stack.c), state and reply among it: load 27 KB, accept 31, truncate 32, point 40, seal 46, commit 47, checkpoint
+ * 58, recover 105, the questions at the end 15; from_bus, which has neither, less than 1. PAVILUKO_STACK leaves room beyond
  * the deepest of them. The paviluko_do_ functions at the end of this file take a pointer to the state instead, and write
  * the next state back.
  *

@@ -39,6 +39,8 @@ enum Fault {
     UntouchedBuffer,
     /// Seal writes behind the record.
     BytesBehind,
+    /// Seal leaves the last block of its text as it was laid out.
+    LastBlockPlain,
     /// A refused Point drops the records below it.
     RefusedPoint,
     /// A point that no checkpoint covers can be truncated at.
@@ -145,6 +147,12 @@ impl Device for Broken {
                     && let Some(byte) = out.get_mut(taken.len)
                 {
                     *byte ^= 1;
+                }
+            }
+            (Fault::LastBlockPlain, Call::Seal { .. }) if answer.is_ok() => {
+                if let Some(text) = before.as_ref().and_then(|model| model.held.as_ref()).map(|held| &held.text) {
+                    let last = (text.len() - 1) / 16 * 16;
+                    out[20 + last..20 + text.len()].copy_from_slice(&text[last..]);
                 }
             }
             (Fault::RefusedPoint, Call::Point { position }) if answer.is_err() => {
@@ -311,6 +319,7 @@ fn a_fault_on_one_side_is_caught() {
         Fault::EmptyTable,
         Fault::UntouchedBuffer,
         Fault::BytesBehind,
+        Fault::LastBlockPlain,
         Fault::RefusedPoint,
         Fault::Uncovered,
         Fault::NotEntered,
@@ -330,6 +339,8 @@ fn a_fault_on_both_sides_is_caught_by_what_is_known() {
     caught_alone(Fault::LaneFirst, "is not as in the book");
     caught_alone(Fault::NumberReversed, "a tie is not the greatest number's");
     caught_alone(Fault::EmptyTable, "is not as in the book");
+    caught_alone(Fault::BytesBehind, "is not as it was lent");
+    caught_alone(Fault::LastBlockPlain, "a card that kept faith");
     caught_alone(Fault::NoCard, "a card that kept faith");
     caught_alone(Fault::LaneZeroAlone, "the state's numbers are not the vault's");
     caught_alone(Fault::CountsFromService, "lowers a vault number");

@@ -47,7 +47,12 @@ pub struct Tally {
     pub one_lane: [u64; 2],
     /// What recoveries read of the second of the entry shown: of another lane, and of its lane with another number.
     pub recovered_ties: [u64; 2],
+    /// Records and files put out, by function: into just the room that they need, and into more.
+    pub put_out: [[u64; 2]; FUNCTIONS.len()],
 }
+
+/// The functions that seal, by their place.
+const SEALING: [usize; 3] = [2, 5, 7];
 
 impl Tally {
     /// Counts a call.
@@ -81,7 +86,7 @@ impl Tally {
     }
 
     /// What never came up: functions never taken, numbers never returned, halves of the claim never tried, kinds of frames
-    /// and readings off the bus never seen, ties too few.
+    /// and readings off the bus never seen, ties too few, room for a sealing never lent.
     pub fn missing(&self) -> Vec<String> {
         let mut out = Vec::new();
         for (i, name) in FUNCTIONS.iter().enumerate() {
@@ -111,6 +116,14 @@ impl Tally {
         ];
         if self.ties() <= TIES {
             out.push(format!("only {} ties of two lanes, where more than {TIES} are wanted", self.ties()));
+        }
+        for at in SEALING {
+            for (count, room) in self.put_out[at].iter().zip(["just the room that it needs", "more room than it needs"])
+            {
+                if *count == 0 {
+                    out.push(format!("{} never sealed into {room}", FUNCTIONS[at]));
+                }
+            }
         }
         for (code, _) in (1..).zip(self.codes).filter(|(_, count)| *count == 0) {
             out.push(format!("no reading off the bus had code {code}"));
@@ -193,6 +206,12 @@ impl Tally {
             self.one_lane[1],
             self.recovered_ties[0],
             self.recovered_ties[1]
+        );
+        let sealed = SEALING.map(|at| format!("{} {} and {}", FUNCTIONS[at], self.put_out[at][0], self.put_out[at][1]));
+        let _ = writeln!(
+            out,
+            "sealed in a buffer of just the length needed, and in a longer one: {}; every byte behind was as it came",
+            sealed.join(", ")
         );
         out
     }

@@ -38,6 +38,8 @@ struct World<'a, D, R> {
     over: bool,
     out: Vec<u8>,
     expected: Vec<u8>,
+    /// What the two held when they were lent.
+    lent: Vec<u8>,
     host: Host,
 }
 
@@ -62,6 +64,7 @@ pub fn run<D: Device, R: Reference>(
         over: false,
         out: Vec::new(),
         expected: Vec::new(),
+        lent: Vec::new(),
         host,
     };
     let count = if style == Style::Long { events + 3600 } else { events };
@@ -166,16 +169,17 @@ impl<D: Device, R: Reference> World<'_, D, R> {
         Ok(())
     }
 
-    /// Lends both so much room, filled with the same byte.
+    /// Lends both so much room, with the same bytes in it, no two neighbours alike.
     fn lend(&mut self, room: usize) {
-        let fill = self.host.rng.any() as u8;
-        for buffer in [&mut self.out, &mut self.expected] {
-            buffer.clear();
-            buffer.resize(room, fill);
-        }
+        let first = self.host.rng.any() as u8;
+        self.lent.clear();
+        self.lent.extend((0..room).map(|i| first.wrapping_add((i % 251) as u8)));
+        self.out.clone_from(&self.lent);
+        self.expected.clone_from(&self.lent);
     }
 
-    /// Compares two answers, and what was lent.
+    /// Compares two answers, and what was lent; behind what was put out, which is nothing where the call was refused, it is as
+    /// it came.
     fn same_answers(&self, answer: &Answer, expected: &Answer) -> Result<(), String> {
         if answer != expected {
             return Err("the answers differ".to_string());
@@ -184,7 +188,11 @@ impl<D: Device, R: Reference> World<'_, D, R> {
             let (a, b) = (self.out[at], self.expected[at]);
             return Err(format!("the outputs differ at byte {at}: {a} and {b}"));
         }
-        Ok(())
+        let put = answer.as_ref().map_or(0, |taken| taken.len);
+        match (put..self.out.len()).find(|&i| self.out[i] != self.lent[i]) {
+            Some(at) => Err(format!("byte {at} of the output, behind the {put} put out, is not as it was lent")),
+            None => Ok(()),
+        }
     }
 
     /// Calls both, compares, and keeps the host's side.
@@ -287,6 +295,9 @@ impl<D: Device, R: Reference> World<'_, D, R> {
         }
 
         let bytes: Rc<[u8]> = Rc::from(&self.out[..taken.len]);
+        if !bytes.is_empty() {
+            self.tally.put_out[call.operation()][usize::from(bytes.len() < self.out.len())] += 1;
+        }
         match taken.store {
             Some(Store::Record { .. }) => host.records.push(Rc::clone(&bytes)),
             Some(Store::Checkpoint) => host.files.push(Rc::clone(&bytes)),

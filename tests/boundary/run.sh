@@ -1,7 +1,7 @@
 #!/bin/sh
 # Tests the library that C programs link, with its header: the header by itself, struct layouts, a session, what a refusal
-# leaves, what is left of a key, and, under valgrind, what a host can hand over by mistake. Run from the repository's top; the
-# library is built before. The argument, if any, is how many rounds of bad input.
+# leaves, what is left of a key, and, under valgrind, sealing in the lent buffer and what a host can hand over by mistake.
+# Run from the repository's top; the library is built before. The argument, if any, is how many rounds of bad input.
 set -eu
 
 library=target/staticlib/libpaviluko.a
@@ -84,6 +84,9 @@ gcc -std=c11 -O2 -Wall -Wextra -Werror -Iinclude -o "$built/passed_on" "$here/pa
 
 gcc -std=c11 -O2 -Wall -Wextra -Werror -Iinclude -o "$built/agree" "$here/agree.c" "$library"
 "$built/agree"
+
+gcc -std=c11 -O2 -g -Wall -Wextra -Werror -Iinclude -o "$built/in_place" "$here/in_place.c" "$library"
+valgrind --error-exitcode=9 -q "$built/in_place"
 
 # ---- what is left of a key ----
 
