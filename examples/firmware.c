@@ -55,7 +55,8 @@ static struct {
     paviluko_state state;
     paviluko_said said;                             /* what the last call said */
     uint64_t next_position;                         /* of the next record or point; counts from 0 after each start */
-    uint8_t out[PAVILUKO_CHECKPOINT_LEN];           /* where seal, checkpoint and recover put what is to be written */
+    uint8_t out[PAVILUKO_CHECKPOINT_LEN];           /* where seal, checkpoint and recover put what is to be written; RAM, for
+                                                     * they seal it there, and until then it is plain */
     uint8_t record[PAVILUKO_RECORD_MAX];            /* a record, read back from the card */
     uint8_t file[PAVILUKO_CHECKPOINT_LEN];          /* a checkpoint file, read from the card */
     uint8_t log[CARD_RECORDS * PAVILUKO_RECORD_MAX]; /* the card's records end to end; PAVILUKO_LOG_MAX is always enough */
