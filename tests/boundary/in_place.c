@@ -1,7 +1,7 @@
 /* Sealing in the lent buffer (02, CR 3): records of 1 to 16 writes by Seal, and the files of Checkpoint and of Recover.
  *
  * Each is put out into buffers of every length from none to some bytes more than it needs (a file into some of them), on the
- * heap, so that valgrind sees every byte read or written beside them, and into one at each of 16 places from an even address.
+ * heap, so that valgrind sees every byte read or written beside them, and into one at each of 16 addresses in a row.
  * A call that is turned down has left every byte as it was lent. One that is taken puts the same bytes out wherever it is
  * lent, leaves every byte behind them, and nothing of its text in plain. */
 #include <string.h>

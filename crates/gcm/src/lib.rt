@@ -144,8 +144,8 @@ fn put_text(w: &[u32; 44], iv: [u8; 12], s: &[u8], n: usize, out: &mut [u8])
     aes::counter(w, aes::next(pre_counter(iv)), &mut out[..n]);
 }
 
-// Encrypts the first n bytes of buf in their place and puts the tag behind them. It refuses a text or data beyond the
-// standard, and a buffer with no room for the tag; buf is then as it came.
+// Encrypts the first n bytes of buf in their place and puts the tag behind them; every byte behind the tag stays. It
+// refuses a text or data beyond the standard, and a buffer with no room for the tag; buf is then as it came.
 pub fn seal_with<'a>(
     w: &'a [u32; 44],
     m: &'a [u64; 1024],

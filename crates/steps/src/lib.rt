@@ -144,7 +144,8 @@ pub fn put_table(key: [u8; 16], version: u64, seal: u64, t: Table, out: &mut [u8
 }
 
 // Puts the file out, with version S + 1 and N as its seal number. It refuses an S at the maximum (1), and an output
-// with no room for the file (3).
+// with no room for the file (3). The answer is built here, around the table that is sealed, as Recover's is: measured, and
+// not by state::stored (docs/DECISIONS.md, Sealing in place).
 pub fn file_step(c: State, next: Due, out: &mut [u8]) -> Answer
     ensures answer { λ r. ⌜ shownAs r (fileStep c (length (now (out .entry))) next .put) ≡ fileStep c (length (now (out .entry))) next ⌝ }
     ensures bytes { λ r. ⌜ now (out .exit) ≡ putOver (fileStep c (length (now (out .entry))) next .put) (now (out .entry)) ⌝ }
