@@ -29,6 +29,14 @@
  * records end to end in order of position. A STORE THAT FAILS IS A CUT: if the host cannot carry out the store that was
  * named, it makes no other call with that state, and starts again with load and recover.
  *
+ * A TORN RECORD. From edition 4 on a card need not write a record whole or not at all: a cut in a record's store may leave
+ * any beginning of it, as the last bytes of the log. Hand the log over as it is found. recover passes over its last bytes
+ * if they are fewer than 20, or if they begin with the head of a record and are fewer than that record has; anything else
+ * that does not open is 9, as before. The beginning may stay until recover names the emptying of the log, which drops it
+ * with all records, and nothing is written behind it before that: no other record is stored until then. A checkpoint file
+ * that was written in part is none, whatever its head says: hand over, and count as of a version, only files of
+ * PAVILUKO_CHECKPOINT_LEN bytes.
+ *
  * VISIBLE is a transaction once V of its lane is stored, and no cut loses it then. After a cut, look at the vault before
  * the recovery: V is at least the number that accept named, or the transaction is not visible and is to be accepted anew,
  * under another number. A recovery raises V to W, and makes nothing visible by it.
@@ -112,7 +120,7 @@ extern "C" {
  * How many of the requests of document 02 this interface has: each one raises it. The library says its own, so that a program
  * can tell whether header and archive belong together. make lib prints it with a hash of the sources. */
 
-#define PAVILUKO_EDITION 3
+#define PAVILUKO_EDITION 4
 uint64_t paviluko_edition(void);
 
 /* ---- numbers and lengths ---- */
@@ -191,7 +199,7 @@ enum {
     PAVILUKO_REFUSED_EPOCH = 10,       /* wrong epoch (offset, 0 in commit) */
     PAVILUKO_REFUSED_TURN = 11,        /* number out of turn (offset, 0 in commit) */
     PAVILUKO_REFUSED_VERSION = 12,     /* checkpoint version is not S */
-    PAVILUKO_REFUSED_MISSING = 13,     /* visible records missing (the lowest such lane) */
+    PAVILUKO_REFUSED_MISSING = 13,     /* visible records missing, or torn (the lowest such lane) */
     PAVILUKO_REFUSED_NO_POINT = 14,    /* no such point, or not covered by a checkpoint */
     PAVILUKO_REFUSED_UNSEEN = 15,      /* a record below the point is not committed yet */
     PAVILUKO_REFUSED_FRAME = 16,       /* from_bus: a broken frame */
@@ -365,13 +373,13 @@ paviluko_reply paviluko_checkpoint(paviluko_state s, uint8_t *out, size_t room);
 paviluko_reply paviluko_truncate(paviluko_state s, uint64_t position);
 
 /* Cold. The first call reads a checkpoint file (of length 0 exactly if S is 0) and a log of at most PAVILUKO_LOG_MAX bytes,
- * records end to end; if they hold all that was made visible it names N, and the table in the state is the table of all
- * visible transactions. The other calls look at neither, and name in turn: the file (in out), S, N, a second file (in out),
+ * records end to end, and behind them perhaps the beginning of a record that a cut left, which is passed over; if they hold
+ * all that was made visible it names N, and the table in the state is the table of all visible transactions. The other calls look at neither, and name in turn: the file (in out), S, N, a second file (in out),
  * S, R of lanes 0 to 7, if any W differs from V also E and V of lanes 0 to 7, and emptying the log: 15 or 24 calls in all.
  * The last one brings the collector into service. Only the calls that name a file write to out.
  * Turned down: 1; 3 (PAVILUKO_LOG_MAX in the first call, PAVILUKO_CHECKPOINT_LEN where a file is due); in the first call
  * also 8 (S or N above the maximum less 2, or E at the maximum), 9 and 12 for the checkpoint, 9, 10, 11 (offset) for the
- * log's records one by one, 13 (lane). */
+ * log's records one by one, 13 (lane; a visible record of which the log has only a beginning is missing too). */
 paviluko_reply paviluko_recover(paviluko_state s, const uint8_t *checkpoint, size_t checkpoint_len, const uint8_t *log,
                                 size_t log_len, uint8_t *out, size_t room);
 

@@ -156,16 +156,16 @@ module _ (key : List ℕ) where
 
     -- ---- the card that kept faith
 
-    live : (s : FlatState) → after key es .state ≡ some s → s .phase ≡ phaseNumber F.Cold → (file out : List ℕ) → FaithfulFile (settled (after key es) .vault .s) (settled (after key es) .card) file
-        → TakenUnlessSpent (settled (after key es) .vault) (returned s (paviluko-recover file (faithfulLog (settled (after key es) .card)) out) .reply .said)
-    live s q co file out f =
+    live : (s : FlatState) → after key es .state ≡ some s → s .phase ≡ phaseNumber F.Cold → (file out : List ℕ) (k : ℕ) → FaithfulFile (settled (after key es) .vault .s) (settled (after key es) .card) file
+        → TakenUnlessSpent (settled (after key es) .vault) (returned s (paviluko-recover file (faithfulLog (settled (after key es) .card) k) out) .reply .said)
+    live s q co file out k f =
         let c = same-state s q in
         let f′ = subst (λ (d : Lasting). FaithfulFile (d .vault .s) (d .card) file) same-settled f in
         let co′ = is-cold (c .0) (subst (λ (t : FlatState). t .phase ≡ phaseNumber F.Cold) (sym (c .2)) co) in
-        let r = holds .faithful-card-is-taken (c .0) (c .1) co′ file (length out) f′ in
-        let log = faithfulLog (history.settled beside .card) in
+        let r = holds .faithful-card-is-taken (c .0) (c .1) co′ file (length out) k f′ in
+        let log = faithfulLog (history.settled beside .card) k in
         let x = unless-spent (c .0) file log out (history.settled beside .vault) r in
-        subst (λ (d : Lasting). TakenUnlessSpent (d .vault) (returned s (paviluko-recover file (faithfulLog (d .card)) out) .reply .said)) (sym same-settled)
+        subst (λ (d : Lasting). TakenUnlessSpent (d .vault) (returned s (paviluko-recover file (faithfulLog (d .card) k) out) .reply .said)) (sym same-settled)
         (subst (λ (t : FlatState). TakenUnlessSpent (history.settled beside .vault) (returned t (paviluko-recover file log out) .reply .said)) (c .2) x)
 
     loads : (loaded (settled (after key es) .vault) key .reply .said ≡ named S.Nothing 0) × (loaded (settled (after key es) .vault) key .reply .state .phase ≡ phaseNumber F.Cold)
@@ -179,12 +179,12 @@ module _ (key : List ℕ) where
         let r = holds .card-has-a-file in
         (r .0, subst (λ (d : Lasting). FaithfulFile (d .vault .s) (d .card) (r .0)) (sym same-settled) (r .1))
 
-    honest : (file out : List ℕ) → FaithfulFile (settled (after key es) .vault .s) (settled (after key es) .card) file → Honest key (after key es) (recovery file (faithfulLog (settled (after key es) .card)) out)
+    honest : (file out : List ℕ) (k : ℕ) → FaithfulFile (settled (after key es) .vault .s) (settled (after key es) .card) file → Honest key (after key es) (recovery file (faithfulLog (settled (after key es) .card) k) out)
     unfolding history.Honest eventOf asked flatWorld
-    honest file out f =
+    honest file out k f =
         let f′ = subst (λ (d : Lasting). FaithfulFile (d .vault .s) (d .card) file) same-settled f in
-        let r = holds .faithful-card-is-honest file (length out) f′ in
-        subst (λ (w : World). Honest key w (recovery file (faithfulLog (settled w .card)) out)) (sym same) r
+        let r = holds .faithful-card-is-honest file (length out) k f′ in
+        subst (λ (w : World). Honest key w (recovery file (faithfulLog (settled w .card) k) out)) (sym same) r
 
     one : (m : ℕ) (a b : Entry) → LatestOf (settled (after key es) .book) m a → LatestOf (settled (after key es) .book) m b → a ≡ b
     one m a b = subst (λ (d : Lasting). LatestOf (d .book) m a → LatestOf (d .book) m b → a ≡ b) (sym same-settled) (holds .latest-is-one m a b)

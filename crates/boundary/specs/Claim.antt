@@ -58,15 +58,15 @@ module _ (key : List ℕ) where
         → HasLatest (next key w (call (paviluko-recover file log out)) .lasting .book) (returned s (paviluko-recover file log out) .reply .state .table)
     -- the latest of all writes to a meter in the book is one entry
     pub latest-is-one : (m : ℕ) (a b : Entry) → LatestOf (settled w .book) m a → LatestOf (settled w .book) m b → a ≡ b
-    -- a cold collector takes a card that kept faith, exactly when no counter is spent
-    pub faithful-card-is-taken : (s : FlatState) → w .state ≡ some s → s .phase ≡ phaseNumber F.Cold → (file out : List ℕ) → FaithfulFile (settled w .vault .s) (settled w .card) file
-        → TakenUnlessSpent (settled w .vault) (returned s (paviluko-recover file (faithfulLog (settled w .card)) out) .reply .said)
+    -- a cold collector takes a card that kept faith, whichever beginning it shows of a record that a cut left, exactly when no counter is spent
+    pub faithful-card-is-taken : (s : FlatState) → w .state ≡ some s → s .phase ≡ phaseNumber F.Cold → (file out : List ℕ) (k : ℕ) → FaithfulFile (settled w .vault .s) (settled w .card) file
+        → TakenUnlessSpent (settled w .vault) (returned s (paviluko-recover file (faithfulLog (settled w .card) k) out) .reply .said)
     -- paviluko_load takes the vault's numbers after any list, names no store, and hands back a cold collector
     pub load-is-taken : (loaded (settled w .vault) key .reply .said ≡ named S.Nothing 0) × (loaded (settled w .vault) key .reply .state .phase ≡ phaseNumber F.Cold)
     -- the card that kept faith has a file of version S where S > 0
     pub card-has-a-file : (file : List ℕ) × FaithfulFile (settled w .vault .s) (settled w .card) file
     -- and what it hands over keeps to the premises
-    pub faithful-card-is-honest : (file out : List ℕ) → FaithfulFile (settled w .vault .s) (settled w .card) file → Honest key w (call (paviluko-recover file (faithfulLog (settled w .card)) out))
+    pub faithful-card-is-honest : (file out : List ℕ) (k : ℕ) → FaithfulFile (settled w .vault .s) (settled w .card) file → Honest key w (call (paviluko-recover file (faithfulLog (settled w .card) k) out))
 
   pub record OverC : Type 0 where
     pub run-is-the-definitions : RunIsTheDefinitions

@@ -18,7 +18,7 @@ use Rattle.protocol.specs.Checkpoint.{checkpoint}
 use Rattle.protocol.specs.Truncate.{truncate}
 use Rattle.protocol.specs.Recover.{recover}
 use Rattle.protocol.specs.History as history
-use Rattle.protocol.specs.History.{callLoad, callAccept, callSeal, callCommit, callPoint, callCheckpoint, callTruncate, callRecover, Lasting, Pending, nothingPending, newLasting, done, sealedBy, withSealings, addsOf}
+use Rattle.protocol.specs.History.{callLoad, callAccept, callSeal, callCommit, callPoint, callCheckpoint, callTruncate, callRecover, Lasting, Pending, nothingPending, newLasting, done, broken, sealedBy, withSealings, addsOf}
 use Rattle.protocol.specs.declared.Vault.{Vault}
 use Rattle.protocol.specs.declared.State.{State}
 use Rattle.boundary.specs.Flat.{thaw, freeze}
@@ -122,7 +122,7 @@ unfoldable pub next : List ℕ → World → Event → World
 next key w (paviluko-load x k) = afterReply (settled w) none (loaded x k) (w .state)
 next key w (call k) = afterCall key (settled w) k (w .state)
 next key w (cut true) = resting (settled w) none
-next key w (cut false) = resting (w .lasting) none
+next key w (cut false) = resting (broken (w .pending) (w .lasting)) none
 
 unfoldable pub run : List ℕ → World → List Event → World
 run key w [] = w

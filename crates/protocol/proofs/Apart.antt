@@ -5,19 +5,20 @@ use mathlib.Core.Path.{_≡_, refl, sym, ap, ap₂, subst, _∙_}
 use mathlib.Core.Option.{Option, none, some}
 use mathlib.Core.Logic.{_⊎_, inl, inr}
 use mathlib.Core.List.{List, [], _∷_, _++_, map, List·Memᴰ, List·Memᴰ·head, List·Memᴰ·tail, List·Memᴰ·not-nil, List·Memᴰ·cases-cons}
+use lib.ListN.{take}
 use Rattle.sealed.specs.Record.{Opened}
 use Rattle.sealed.specs.Checkpoint.{OpenedFile}
 use Rattle.protocol.specs.Vaults.{setW, setV, setR, setE, setS, setN}
-use Rattle.protocol.specs.History.{Placed, placedFrom, Lasting, Sealing, nothingPending, done, vaultAfter, cardAfter, bookAfter, sealedBy, withSealings, faithfulLog}
+use Rattle.protocol.specs.History.{Placed, placedFrom, Lasting, Sealing, nothingPending, done, vaultAfter, cardAfter, bookAfter, sealedBy, withSealings, cardCut, broken, faithfulLog}
 use Rattle.protocol.specs.declared.Vault.{Vault}
 use Rattle.protocol.specs.declared.State.{State}
 use Rattle.protocol.specs.declared.Store.{Store}
 use Rattle.protocol.specs.declared.Store.the-variants as S
-use Rattle.protocol.proofs.Basis.{bytesOf, fileOf}
+use Rattle.protocol.proofs.Basis.{bytesOf, begunBytes, fileOf}
 use Rattle.protocol.proofs.LaidLaws.{laidOut}
 use Rattle.protocol.proofs.Card.{Rising, recsOf, placedOf, placed-from, in-order, end-to-end}
 use Rattle.protocol.proofs.Listed.{map-snoc}
-use Rattle.protocol.proofs.Invariant.{Durable, Out, quiet, outRecord, outFile, known, carried, bookedTo, Known, as-record, as-file, Apart, Puts}
+use Rattle.protocol.proofs.Invariant.{Durable, Out, quiet, outRecord, outFile, known, carried, cutShort, bookedTo, Known, as-record, as-file, Apart, Puts}
 
 -- what stands in a list under a function
 pub mem-map : {A B : Type 0} (f : A → B) (xs : List A) (y : B) → List·Memᴰ y (map f xs) → (x : A) × List·Memᴰ x xs × (y ≡ f x)
@@ -44,6 +45,10 @@ module _ (key : List ℕ) where
   pub apart-still : (a : Lasting) (d : Durable) → Apart key a d → Apart key (done nothingPending a) d
   unfolding done vaultAfter cardAfter bookAfter
   apart-still a d h = h
+
+  pub apart-uncut : (a : Lasting) (d : Durable) → Apart key a d → Apart key (broken nothingPending a) d
+  unfolding broken cardCut
+  apart-uncut a d h = h
 
   -- ---- what is put out
 
@@ -75,8 +80,7 @@ module _ (key : List ℕ) where
   record-apart a d c p r put e h = record {
     vault = h .vault;
     book = h .book;
-    records = h .records;
-    files = h .files;
+    card = h .card;
     out = λ b m. go b (List·Memᴰ·cases-cons m);
     out-record = λ x m. back x (List·Memᴰ·cases-cons m);
     out-file = λ f m. List·Memᴰ·tail (h .out-file f m);
@@ -96,8 +100,7 @@ module _ (key : List ℕ) where
   file-apart a d c f put e h = record {
     vault = h .vault;
     book = h .book;
-    records = h .records;
-    files = h .files;
+    card = h .card;
     out = λ b m. go b (List·Memᴰ·cases-cons m);
     out-record = λ r m. List·Memᴰ·tail (h .out-record r m);
     out-file = λ x m. back x (List·Memᴰ·cases-cons m);
@@ -124,24 +127,27 @@ module _ (key : List ℕ) where
   plain-done : (a : Lasting) (d : Durable) (st : Store) (put : List ℕ) → Puts key quiet st put → Apart key a d → Apart key (stored st put a) (carried st quiet d)
   unfolding done vaultAfter cardAfter bookAfter
   plain-done a d S.Nothing put p h = h
-  plain-done a d (S.W l k) put p h = record { vault = ap (λ (x : Vault). setW x l k) (h .vault); book = h .book; records = h .records; files = h .files; out = h .out; out-record = h .out-record; out-file = h .out-file }
-  plain-done a d (S.V l k) put p h = record { vault = ap (λ (x : Vault). setV x l k) (h .vault); book = h .book; records = h .records; files = h .files; out = h .out; out-record = h .out-record; out-file = h .out-file }
-  plain-done a d (S.R l k) put p h = record { vault = ap (λ (x : Vault). setR x l k) (h .vault); book = h .book; records = h .records; files = h .files; out = h .out; out-record = h .out-record; out-file = h .out-file }
-  plain-done a d (S.E k) put p h = record { vault = ap (λ (x : Vault). setE x k) (h .vault); book = h .book; records = h .records; files = h .files; out = h .out; out-record = h .out-record; out-file = h .out-file }
-  plain-done a d (S.S k) put p h = record { vault = ap (λ (x : Vault). setS x k) (h .vault); book = h .book; records = h .records; files = h .files; out = h .out; out-record = h .out-record; out-file = h .out-file }
-  plain-done a d (S.N k) put p h = record { vault = ap (λ (x : Vault). setN x k) (h .vault); book = h .book; records = h .records; files = h .files; out = h .out; out-record = h .out-record; out-file = h .out-file }
+  plain-done a d (S.W l k) put p h = record { vault = ap (λ (x : Vault). setW x l k) (h .vault); book = h .book; card = h .card; out = h .out; out-record = h .out-record; out-file = h .out-file }
+  plain-done a d (S.V l k) put p h = record { vault = ap (λ (x : Vault). setV x l k) (h .vault); book = h .book; card = h .card; out = h .out; out-record = h .out-record; out-file = h .out-file }
+  plain-done a d (S.R l k) put p h = record { vault = ap (λ (x : Vault). setR x l k) (h .vault); book = h .book; card = h .card; out = h .out; out-record = h .out-record; out-file = h .out-file }
+  plain-done a d (S.E k) put p h = record { vault = ap (λ (x : Vault). setE x k) (h .vault); book = h .book; card = h .card; out = h .out; out-record = h .out-record; out-file = h .out-file }
+  plain-done a d (S.S k) put p h = record { vault = ap (λ (x : Vault). setS x k) (h .vault); book = h .book; card = h .card; out = h .out; out-record = h .out-record; out-file = h .out-file }
+  plain-done a d (S.N k) put p h = record { vault = ap (λ (x : Vault). setN x k) (h .vault); book = h .book; card = h .card; out = h .out; out-record = h .out-record; out-file = h .out-file }
   plain-done a d (S.Record q) put p h = absurd p
   plain-done a d S.File put p h = absurd p
-  plain-done a d (S.Delete q) put p h = record { vault = h .vault; book = h .book; records = ap (placedFrom q) (h .records) ∙ placed-from key q (d .spots); files = h .files; out = h .out; out-record = h .out-record; out-file = h .out-file }
-  plain-done a d S.Empty put p h = record { vault = h .vault; book = h .book; records = refl; files = h .files; out = h .out; out-record = h .out-record; out-file = h .out-file }
+  plain-done a d (S.Delete q) put p h = record { vault = h .vault; book = h .book; card = record { records = ap (placedFrom q) (h .card .records) ∙ placed-from key q (d .spots); files = h .card .files; beginning = h .card .beginning }; out = h .out; out-record = h .out-record; out-file = h .out-file }
+  plain-done a d S.Empty put p h = record { vault = h .vault; book = h .book; card = record { records = refl; files = h .card .files; beginning = refl }; out = h .out; out-record = h .out-record; out-file = h .out-file }
 
   record-done : (a : Lasting) (d : Durable) (p : ℕ) (r : Opened) (put : List ℕ) → put ≡ bytesOf key r → Apart key a d → Apart key (stored (S.Record p) put a) (carried (S.Record p) (outRecord r) d)
   unfolding done vaultAfter cardAfter bookAfter
   record-done a d p r put e h = record {
     vault = h .vault;
     book = h .book;
-    records = ap₂ (λ (xs : List Placed) (b : List ℕ). xs ++ (record { position = p; bytes = b } ∷ [])) (h .records) e ∙ sym (map-snoc (placedOf key) (d .spots) (record { position = p; rec = r }));
-    files = h .files;
+    card = record {
+      records = ap₂ (λ (xs : List Placed) (b : List ℕ). xs ++ (record { position = p; bytes = b } ∷ [])) (h .card .records) e ∙ sym (map-snoc (placedOf key) (d .spots) (record { position = p; rec = r }));
+      files = h .card .files;
+      beginning = h .card .beginning;
+    };
     out = h .out;
     out-record = h .out-record;
     out-file = h .out-file;
@@ -152,8 +158,11 @@ module _ (key : List ℕ) where
   file-done a d f put e h = record {
     vault = h .vault;
     book = h .book;
-    records = h .records;
-    files = ap₂ (λ (xs : List (List ℕ)) (b : List ℕ). xs ++ (b ∷ [])) (h .files) e ∙ sym (map-snoc (fileOf key) (d .cards) f);
+    card = record {
+      records = h .card .records;
+      files = ap₂ (λ (xs : List (List ℕ)) (b : List ℕ). xs ++ (b ∷ [])) (h .card .files) e ∙ sym (map-snoc (fileOf key) (d .cards) f);
+      beginning = h .card .beginning;
+    };
     out = h .out;
     out-record = h .out-record;
     out-file = h .out-file;
@@ -170,9 +179,41 @@ module _ (key : List ℕ) where
   unfolding done bookAfter
   apart-done a d o st put none p h = store-done a d o st put p h
   apart-done a d o st put (some r) p h = let k = store-done a d o st put p h in
-      record { vault = k .vault; book = ap (λ (x : List Opened). x ++ (r ∷ [])) (k .book); records = k .records; files = k .files; out = k .out; out-record = k .out-record; out-file = k .out-file }
+      record { vault = k .vault; book = ap (λ (x : List Opened). x ++ (r ∷ [])) (k .book); card = k .card; out = k .out; out-record = k .out-record; out-file = k .out-file }
+
+  -- ---- what a cut leaves of a store that is not done
+
+  abbrev left : Store → List ℕ → Option Opened → Lasting → Lasting
+  left st put adds a = broken (record { store = st; bytes = put; adds = adds }) a
+
+  plain-cut : (a : Lasting) (d : Durable) (st : Store) (put : List ℕ) (adds : Option Opened) → Puts key quiet st put → Apart key a d → Apart key (left st put adds a) d
+  unfolding broken cardCut
+  plain-cut a d S.Nothing put adds p h = h
+  plain-cut a d (S.W l k) put adds p h = h
+  plain-cut a d (S.V l k) put adds p h = h
+  plain-cut a d (S.R l k) put adds p h = h
+  plain-cut a d (S.E k) put adds p h = h
+  plain-cut a d (S.S k) put adds p h = h
+  plain-cut a d (S.N k) put adds p h = h
+  plain-cut a d (S.Record q) put adds p h = absurd p
+  plain-cut a d S.File put adds p h = absurd p
+  plain-cut a d (S.Delete q) put adds p h = h
+  plain-cut a d S.Empty put adds p h = h
+
+  record-cut : (a : Lasting) (d : Durable) (p : ℕ) (r : Opened) (put : List ℕ) (adds : Option Opened) → put ≡ bytesOf key r → Apart key a d → Apart key (left (S.Record p) put adds a) (cutShort (outRecord r) d)
+  unfolding broken cardCut
+  record-cut a d p r put adds e h = record { vault = h .vault; book = h .book; card = record { records = h .card .records; files = h .card .files; beginning = e }; out = h .out; out-record = h .out-record; out-file = h .out-file }
+
+  file-cut : (a : Lasting) (d : Durable) (put : List ℕ) (adds : Option Opened) → Apart key a d → Apart key (left S.File put adds a) d
+  unfolding broken cardCut
+  file-cut a d put adds h = h
+
+  pub apart-cut : (a : Lasting) (d : Durable) (o : Out) (st : Store) (put : List ℕ) (adds : Option Opened) → Puts key o st put → Apart key a d → Apart key (left st put adds a) (cutShort o d)
+  apart-cut a d quiet st put adds p h = plain-cut a d st put adds p h
+  apart-cut a d (outRecord r) st put adds p h = subst (λ (x : Store). Apart key (left x put adds a) (cutShort (outRecord r) d)) (sym (p .1)) (record-cut a d (p .0) r put adds (p .2) h)
+  apart-cut a d (outFile f) st put adds p h = subst (λ (x : Store). Apart key (left x put adds a) d) (sym (p .0)) (file-cut a d put adds h)
 
   -- ---- the log that a faithful card hands over
-  pub faithful-log : (a : Lasting) (d : Durable) → Apart key a d → Rising (d .spots) → faithfulLog (a .card) ≡ laidOut key (recsOf (d .spots))
+  pub faithful-log : (a : Lasting) (d : Durable) (k : ℕ) → Apart key a d → Rising (d .spots) → faithfulLog (a .card) k ≡ laidOut key (recsOf (d .spots)) ++ take k (begunBytes key (d .begun))
   unfolding faithfulLog
-  faithful-log a d h r = rw (h .records, in-order key (d .spots) r) (end-to-end key (d .spots))
+  faithful-log a d k h r = rw (h .card .records, h .card .beginning, in-order key (d .spots) r) (ap (λ (s : List ℕ). s ++ take k (begunBytes key (d .begun))) (end-to-end key (d .spots)))

@@ -5,7 +5,7 @@ use Prim.Native.Nat.{ℕ, _+_, _-_, _≤_, _<_}
 use mathlib.Core.Path.{_≡_, sym, ap, _∙_}
 use mathlib.Core.Bool.{true}
 use mathlib.Core.List.{List, []}
-use mathlib.Core.Option.{Option, some}
+use mathlib.Core.Option.{Option, some, none}
 use native.Mathlib.Omega.{arith}
 use lib.ListN.{length}
 use Rattle.octets.specs.Lists.{at}
@@ -50,6 +50,11 @@ pub record FileWritable (f : OpenedFile) : Type 0 where
 module _ (key : List ℕ) where
   abbrev pub bytesOf : Opened → List ℕ
   bytesOf r = recordBytes (aesGcm key) (r .lane) (r .epoch) (r .number) (r .text)
+
+  -- of a record that was begun, or none
+  abbrev pub begunBytes : Option Opened → List ℕ
+  begunBytes none = []
+  begunBytes (some r) = bytesOf r
 
   abbrev pub fileOf : OpenedFile → List ℕ
   fileOf f = fileBytes (aesGcm key) (f .version) (f .seal) (f .table)

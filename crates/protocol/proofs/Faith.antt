@@ -5,15 +5,15 @@
 use Prim.Native.Nat.{ℕ, suc, _+_, _-_, _≤_, _<_, min, max}
 use mathlib.Core.Path.{_≡_, refl, sym, ap, subst, _∙_}
 use mathlib.Core.Bool.{Bool, true, false, cond, not, _||_}
-use mathlib.Core.Option.{some}
+use mathlib.Core.Option.{Option, none, some}
 use mathlib.Core.Logic.{_⊎_, inl, inr}
-use mathlib.Core.List.{List, [], _∷_, List·Memᴰ, List·Memᴰ·head, List·Memᴰ·tail}
+use mathlib.Core.List.{List, [], _∷_, _++_, List·Memᴰ, List·Memᴰ·head, List·Memᴰ·tail}
 use native.Mathlib.Omega.{arith}
-use native.Mathlib.Decide.{ℕ-discrete}
+use native.Mathlib.Decide.{ℕ-discrete, decLt}
 use lib.Dec.{leb, ltb, eqb}
-use lib.ListN.{set, length, length-set}
-use lib.Seq.{getD-set-same, getD-set-other}
-use borrow.Author.Tests.{ltb-true, leb-true, ltb-false, leb-false, eq-eqb}
+use lib.ListN.{set, length, take, length-set}
+use lib.Seq.{getD-set-same, getD-set-other, take-nil, take-all}
+use borrow.Author.Tests.{ltb-true, leb-true, ltb-false, leb-false, eq-eqb, le-leb, lt-ltb}
 use Rattle.octets.specs.Lists.{at}
 use Rattle.octets.proofs.BoolLaws.{or-left, or-right}
 use Rattle.table.specs.declared.Table.{Table}
@@ -23,10 +23,14 @@ use Rattle.sealed.specs.Aead.{aesGcm}
 use Rattle.sealed.specs.Record.{Opened}
 use Rattle.protocol.specs.Replay.{Reading, Read, reading, passedOver, orStop, behind, stepOpened, ended, replay}
 use Rattle.protocol.specs.declared.Vault.{Vault}
-use Rattle.protocol.proofs.Basis.{Writable}
+use Rattle.protocol.proofs.Basis.{Writable, bytesOf, begunBytes}
 use Rattle.protocol.proofs.MissingLaws.{reached-ends}
-use Rattle.protocol.proofs.LaidLaws.{laidOut, goOn, follow, AllWritable, startAt, replay-laid}
+use Rattle.protocol.proofs.LaidLaws.{laidOut, goOn, follow, AllWritable, startAt, Comes, comes-none, comes-torn, comes-whole, replay-tail}
 use Rattle.protocol.proofs.Card.{Spot, cnt, cnt-same, cnt-other, Consec, recsOf, mem-recs}
+
+or-true : (b : Bool) → (b || true) ≡ true
+or-true true = refl
+or-true false = refl
 
 module _ (key : List ℕ) (x : Vault) (c : ℕ → ℕ)
     (right : Opened → Type 0)
@@ -122,14 +126,48 @@ module _ (key : List ℕ) (x : Vault) (c : ℕ → ℕ)
   all-writable : (xs : List Spot) → ((p : Spot) → List·Memᴰ p xs → right (p .rec)) → AllWritable (recsOf xs)
   all-writable xs r o m = let z = mem-recs xs o m in subst Writable (sym (z .2)) (fine (z .0 .rec) (r (z .0) (z .1)))
 
-  -- The log of a card that kept faith is read to its end, and no lane is missing.
-  pub read-faithful : (xs : List Spot) (t : Table) → length (x .r) ≡ lanes → Consec c xs → ((p : Spot) → List·Memᴰ p xs → right (p .rec))
-      → ((l : ℕ) → at (x .r) l < at (x .v) l → (at (x .v) l ≤ c l) × (c l ≤ at (x .r) l + cnt l xs))
-      → (g : Reading) × (replay (aesGcm key) x t (laidOut key (recsOf xs)) ≡ reading g)
-  unfolding Ends cnt
-  read-faithful xs t len k r reach = go (reads xs (startAt x t) k r (record { spot = λ l h. let z = reach l h .1 in omega arith; len = len }))
+  -- ---- the tail
+
+  -- a tail that is read on and leaves the lanes as they are
+  abbrev Keeps : (Reading → Read) → Type 0
+  Keeps f = (g : Reading) → (h : Reading) × (f g ≡ reading h) × (h .last ≡ g .last)
+
+  passes : (r : Opened) → (r .number ≤ at (x .r) (r .lane)) ⊎ (at (x .v) (r .lane) < r .number) → passedOver x r ≡ true
+  unfolding passedOver
+  passes r (inl h) = rw (le-leb (r .number) (at (x .r) (r .lane)) h)
+  passes r (inr h) = rw (lt-ltb (at (x .v) (r .lane)) (r .number) h, or-true (leb (r .number) (at (x .r) (r .lane))))
+
+  -- a record that is passed over does
+  keeps-passed : (r : Opened) → passedOver x r ≡ true → Keeps (λ g. follow x g (r ∷ []))
+  unfolding follow goOn stepOpened
+  keeps-passed r e g = (record { offset = behind g r; last = g .last; table = g .table }, rw e, refl)
+
+  -- so does every beginning of a record that is passed over, the whole of it and none of it too
+  tail-of : (o : Option Opened) (k : ℕ) → ((y : Opened) → o ≡ some y → right y) → ((y : Opened) → o ≡ some y → (y .number ≤ at (x .r) (y .lane)) ⊎ (at (x .v) (y .lane) < y .number))
+      → (f : Reading → Read) × Comes key x (take k (begunBytes key o)) f × Keeps f
+  tail-of none k h p = (reading, (λ front n g l e. rw (take-nil k) (comes-none key x front n g (omega arith) e)), λ g. (g, refl, refl))
+  tail-of (some r) k h p = go (decLt k (length (bytesOf key r)))
     where
-      go : Ends (follow x (startAt x t) (recsOf xs)) → (g : Reading) × (replay (aesGcm key) x t (laidOut key (recsOf xs)) ≡ reading g)
-      go (g, e, m) =
-          let n = reached-ends x g (λ l i h. let s = m .spot l h in let z = reach l h .0 in omega arith) in
-          (g, replay-laid key x t (recsOf xs) (all-writable xs r) ∙ ap (ended x) e ∙ n)
+      go : Dec (k < length (bytesOf key r)) → (f : Reading → Read) × Comes key x (take k (bytesOf key r)) f × Keeps f
+      go (yes l) = (reading, comes-torn key x r k (fine r (h r refl)) l, λ g. (g, refl, refl))
+      go (no l) = (
+        (λ g. follow x g (r ∷ [])),
+        subst (λ (s : List ℕ). Comes key x s (λ g. follow x g (r ∷ []))) (sym (take-all k (bytesOf key r) (omega arith))) (comes-whole key x r (fine r (h r refl))),
+        keeps-passed r (passes r (p r refl)),
+      )
+
+  -- The log of a card that kept faith is read to its end, and no lane is missing.
+  pub read-faithful : (xs : List Spot) (t : Table) (o : Option Opened) (k : ℕ) → length (x .r) ≡ lanes → Consec c xs → ((p : Spot) → List·Memᴰ p xs → right (p .rec))
+      → ((l : ℕ) → at (x .r) l < at (x .v) l → (at (x .v) l ≤ c l) × (c l ≤ at (x .r) l + cnt l xs))
+      → ((y : Opened) → o ≡ some y → right y) → ((y : Opened) → o ≡ some y → (y .number ≤ at (x .r) (y .lane)) ⊎ (at (x .v) (y .lane) < y .number))
+      → (g : Reading) × (replay (aesGcm key) x t (laidOut key (recsOf xs) ++ take k (begunBytes key o)) ≡ reading g)
+  unfolding Ends cnt goOn
+  read-faithful xs t o k len con r reach known passed = go (reads xs (startAt x t) con r (record { spot = λ l h. let z = reach l h .1 in omega arith; len = len })) (tail-of o k known passed)
+    where
+      go : Ends (follow x (startAt x t) (recsOf xs)) → (f : Reading → Read) × Comes key x (take k (begunBytes key o)) f × Keeps f
+          → (g : Reading) × (replay (aesGcm key) x t (laidOut key (recsOf xs) ++ take k (begunBytes key o)) ≡ reading g)
+      go (g, e, m) (f, comes, keeps) =
+          let w = keeps g in
+          let h = w .0 in
+          let n = reached-ends x h (λ l i lt. let s = m .spot l lt in let z = reach l lt .0 in let q : at (h .last) l ≡ at (g .last) l = ap (λ (u : List ℕ). at u l) (w .2) in omega arith) in
+          (h, replay-tail key x t (recsOf xs) (take k (begunBytes key o)) f (all-writable xs r) comes ∙ ap (λ (d : Read). ended x (goOn d f)) e ∙ ap (ended x) (w .1) ∙ n)

@@ -25,7 +25,7 @@ use Rattle.protocol.specs.declared.RecoverStep.the-variants as G
 use Rattle.protocol.specs.declared.RecoverNumber.the-variants as M
 use Rattle.protocol.proofs.Basis.{fileOf}
 use Rattle.protocol.proofs.Invariant.{Durable, cardsTo, FileIn, Durably, HasNext, Raising, RecoverDue, Cutting, Recovering, Service, LinkedAt, Linked, LinkedIf, Apart, Invariant}
-use Rattle.protocol.proofs.Apart.{mem-map, apart-still}
+use Rattle.protocol.proofs.Apart.{mem-map, apart-still, apart-uncut}
 
 -- ---- the state
 
@@ -53,14 +53,14 @@ module _ (c : State) (d : Durable) (cs : List OpenedFile) where
   module _ (key : List ℕ) where
     service : (du : Due) → (sDue du ≡ true → HasNext (c .vault .s) cs) → Service key c d du → Service key c (cardsTo d cs) du
     unfolding sDue
-    service D.Nothing n h = record { key-is = h .key-is; arrays = h .arrays; table = h .table; common = h .common; stored = h .stored }
+    service D.Nothing n h = record { key-is = h .key-is; arrays = h .arrays; table = h .table; common = h .common; clean = h .clean; stored = h .stored }
     service D.Record n h =
         let k = h .stored in
-        record { key-is = h .key-is; arrays = h .arrays; table = h .table; common = h .common; stored = record { stale = k .stale; exact = k .exact; lane = k .lane; fine = k .fine; bytes = k .bytes; newest = k .newest } }
-    service (D.Checkpoint K.File) n h = record { key-is = h .key-is; arrays = h .arrays; table = h .table; common = h .common; stored = h .stored }
-    service (D.Checkpoint K.Version) n h = let k = h .stored in record { key-is = h .key-is; arrays = h .arrays; table = h .table; common = h .common; stored = (k .0, k .1, n refl) }
-    service (D.Truncate position (L.R j)) n h = record { key-is = h .key-is; arrays = h .arrays; table = h .table; common = h .common; stored = cutting _ position (h .stored) }
-    service (D.Truncate position L.Delete) n h = record { key-is = h .key-is; arrays = h .arrays; table = h .table; common = h .common; stored = cutting _ position (h .stored) }
+        record { key-is = h .key-is; arrays = h .arrays; table = h .table; common = h .common; clean = h .clean; stored = record { stale = k .stale; exact = k .exact; lane = k .lane; fine = k .fine; bytes = k .bytes; newest = k .newest } }
+    service (D.Checkpoint K.File) n h = record { key-is = h .key-is; arrays = h .arrays; table = h .table; common = h .common; clean = h .clean; stored = h .stored }
+    service (D.Checkpoint K.Version) n h = let k = h .stored in record { key-is = h .key-is; arrays = h .arrays; table = h .table; common = h .common; clean = h .clean; stored = (k .0, k .1, n refl) }
+    service (D.Truncate position (L.R j)) n h = record { key-is = h .key-is; arrays = h .arrays; table = h .table; common = h .common; clean = h .clean; stored = cutting _ position (h .stored) }
+    service (D.Truncate position L.Delete) n h = record { key-is = h .key-is; arrays = h .arrays; table = h .table; common = h .common; clean = h .clean; stored = cutting _ position (h .stored) }
     service (D.Recover step) n h = absurd (h .stored)
 
     linked-at : (ph : Phase) (du : Due) → (sDue du ≡ true → HasNext (c .vault .s) cs) → LinkedAt key c d ph du → LinkedAt key c (cardsTo d cs) ph du
@@ -128,10 +128,10 @@ module _ (key : List ℕ) where
   forgotten-invariant w i left among file f n =
       let d = i .after in
       let h = i .apart′ in
-      let r = left-apart (d .cards) left (subst (Among left) (h .files) among) in
+      let r = left-apart (d .cards) left (subst (Among left) (h .card .files) among) in
       let cs = r .0 in
       let e : settled w .vault .s ≡ d .vault .s = ap (λ (x : Vault). x .s) (h .vault) in
       let f′ = subst (λ (s : ℕ). FaithfulFile s (cardLeft left (settled w .card)) file) e f in
       let k = left-durably d cs (i .then) (r .2) (left-has (d .vault .s) d cs left (settled w) file (i .then) (r .1) (r .2) f′) in
-      let a : Apart key (forgotten left w .lasting) (cardsTo d cs) = record { vault = h .vault; book = h .book; records = h .records; files = r .1; out = h .out; out-record = h .out-record; out-file = h .out-file } in
-      record { before = cardsTo d cs; after = cardsTo d cs; apart = a; apart′ = apart-still key _ _ a; now = k; then = k; link = left-linked (w .state) d cs left (i .then) (r .1) (r .2) (subst (λ (s : ℕ). NextLeft (w .state) s left) e n) (i .link) }
+      let a : Apart key (forgotten left w .lasting) (cardsTo d cs) = record { vault = h .vault; book = h .book; card = record { records = h .card .records; files = r .1; beginning = h .card .beginning }; out = h .out; out-record = h .out-record; out-file = h .out-file } in
+      record { before = cardsTo d cs; after = cardsTo d cs; apart = apart-uncut key _ _ a; apart′ = apart-still key _ _ a; now = k; then = k; met = tt; link = left-linked (w .state) d cs left (i .then) (r .1) (r .2) (subst (λ (s : ℕ). NextLeft (w .state) s left) e n) (i .link) }

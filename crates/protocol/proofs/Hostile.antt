@@ -6,7 +6,7 @@
 -- Assumes nothing.
 use Prim.Native.Nat.{ℕ, suc, _≤_, _<_}
 use mathlib.Core.Path.{_≡_, refl, ap, subst, _∙_}
-use mathlib.Core.Bool.{true}
+use mathlib.Core.Bool.{true, false}
 use mathlib.Core.Option.{some}
 use mathlib.Core.Logic.{_⊎_, inl, inr}
 use mathlib.Core.List.{List, List·Memᴰ, List·Memᴰ·head, List·Memᴰ·tail, List·Memᴰ·not-nil}
@@ -21,7 +21,7 @@ use Rattle.sealed.specs.Record.{Opened, wholeLen, openRecord}
 use Rattle.sealed.specs.Log.{recordAt, recordsTo, recordsIn}
 use Rattle.sealed.proofs.LogTrip.{at-opens, records-at}
 use Rattle.protocol.specs.declared.Vault.{Vault}
-use Rattle.protocol.specs.Replay.{Reading, reading, passedOver, behind, replay}
+use Rattle.protocol.specs.Replay.{Reading, reading, passedOver, behind, goesOn, replay}
 use Rattle.protocol.proofs.Basis.{Writable, withRecord}
 use Rattle.protocol.proofs.Lanes.{Put, same, other, put}
 use Rattle.protocol.proofs.Latest.{In, Part, Full, Upto, Single, sound-enter, cover-enter, canon-enter, cover-mono}
@@ -102,7 +102,7 @@ module _ (key : List ℕ) (x : Vault) (book : List Opened) (sealed : Opened → 
         → r .number ≡ suc (at (g .last) (r .lane)) → Came n (entering g r)
     enters n g r h e above upto q = let was = first n g (h .1) r e in (took (g .last) (g .table) r (h .0) (was .0) above upto q, was .1)
 
-    ends : (n : ℕ) (g : Reading) → Came (suc n) g → length log ≤ g .offset → Came n g
+    ends : (n : ℕ) (g : Reading) → Came (suc n) g → goesOn log (g .offset) ≡ false → Came n g
     ends n g h p = (h .0, λ b r m. absurd (List·Memᴰ·not-nil (rw (none-left log (g .offset) n p) at m)))
 
   -- a lane with R < V has reached V, and any other is there already

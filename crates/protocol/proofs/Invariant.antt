@@ -9,7 +9,7 @@
 -- (4) no file that was put out is of a version above S + 1; one of version S + 1 has the whole book's table; one of version S, and the empty
 --     table while S = 0, has the book's up to R (Filed);
 -- (5) the card's records are in order of position; in each lane their numbers go up by one to a top; where R < V they reach from R to V; they
---     are at most 9 · 128 (Carded);
+--     are at most 9 · 128; a record that a cut left begun was put out, and has a number at most R or above V (Carded);
 -- (6) the card has a file of version S where S > 0 (CardFiled).
 --
 -- Of a state, by its phase and the store that is due (Linked):
@@ -17,12 +17,13 @@
 -- (8) cold: no store is due and nothing is listed;
 -- (9) recovering: its table is the whole book's; once both checkpoints are done every file of version S has it too; R = W before E and V rise;
 -- (10) in service: its table is the whole book's; no R is above V; the listed records are the card's from the newest point on; a point's counts
---      are what lies below it, they are visible, and a covered point's are in every file of version S (Serving).
+--      are what lies below it, they are visible, and a covered point's are in every file of version S (Serving); no record is begun.
 -- Assumes nothing.
 use Prim.Native.Nat.{ℕ, suc, _+_, _-_, _*_, _≤_, _<_, pred}
 use mathlib.Core.Path.{_≡_}
 use mathlib.Core.Bool.{Bool, true, false, cond}
 use mathlib.Core.Option.{Option, none, some}
+use mathlib.Core.Logic.{_⊎_}
 use mathlib.Core.List.{List, [], _∷_, _++_, map, List·Memᴰ}
 use lib.ListN.{length}
 use Rattle.octets.specs.Lists.{at}
@@ -36,7 +37,7 @@ use Rattle.protocol.specs.States.{listed, pointsMax, heldText}
 use Rattle.protocol.specs.Point.{Mark, marksOf}
 use Rattle.protocol.specs.Truncate.{pointsOf, findPoint}
 use Rattle.protocol.specs.Said.{Said, refused, taken, Answered}
-use Rattle.protocol.specs.History.{Lasting, World, Sealing, settled}
+use Rattle.protocol.specs.History.{Card, Lasting, World, Sealing, settled, broken}
 use Rattle.protocol.specs.Beside.{NotLower}
 use Rattle.protocol.specs.declared.Vault.{Vault}
 use Rattle.protocol.specs.declared.Point.{Point}
@@ -58,7 +59,7 @@ use Rattle.protocol.specs.declared.RecoverNumber.the-variants as M
 use Rattle.protocol.specs.declared.Store.{Store}
 use Rattle.protocol.specs.declared.Store.the-variants as S
 use Rattle.protocol.proofs.VaultLaws.{LaneFine}
-use Rattle.protocol.proofs.Basis.{Writable, FileWritable, bytesOf, fileOf}
+use Rattle.protocol.proofs.Basis.{Writable, FileWritable, bytesOf, begunBytes, fileOf}
 use Rattle.protocol.proofs.Latest.{In, Single, Full, Upto}
 use Rattle.protocol.proofs.Hostile.{Whole}
 use Rattle.protocol.proofs.Card.{Spot, spotsFrom, cnt, Consec, Rising, placedOf}
@@ -71,15 +72,19 @@ pub record Durable : Type 0 where
   pub files : List OpenedFile
   pub spots : List Spot
   pub cards : List OpenedFile
+  pub begun : Option Opened
 
 abbrev pub vaultTo : Durable → Vault → Durable
-vaultTo d x = record { vault = x; book = d .book; sealed = d .sealed; files = d .files; spots = d .spots; cards = d .cards }
+vaultTo d x = record { vault = x; book = d .book; sealed = d .sealed; files = d .files; spots = d .spots; cards = d .cards; begun = d .begun }
 
 abbrev pub spotsTo : Durable → List Spot → Durable
-spotsTo d c = record { vault = d .vault; book = d .book; sealed = d .sealed; files = d .files; spots = c; cards = d .cards }
+spotsTo d c = record { vault = d .vault; book = d .book; sealed = d .sealed; files = d .files; spots = c; cards = d .cards; begun = d .begun }
+
+abbrev pub begunTo : Durable → Option Opened → Durable
+begunTo d o = record { vault = d .vault; book = d .book; sealed = d .sealed; files = d .files; spots = d .spots; cards = d .cards; begun = o }
 
 abbrev pub cardsTo : Durable → List OpenedFile → Durable
-cardsTo d cs = record { vault = d .vault; book = d .book; sealed = d .sealed; files = d .files; spots = d .spots; cards = cs }
+cardsTo d cs = record { vault = d .vault; book = d .book; sealed = d .sealed; files = d .files; spots = d .spots; cards = cs; begun = d .begun }
 
 -- ---- what a call puts out, and what its store does
 
@@ -91,8 +96,8 @@ pub data Out : Type 0 where
 -- what is put out is known from then on, whether or not its store is done
 abbrev pub known : Out → Durable → Durable
 known quiet d = d
-known (outRecord r) d = record { vault = d .vault; book = d .book; sealed = r ∷ d .sealed; files = d .files; spots = d .spots; cards = d .cards }
-known (outFile f) d = record { vault = d .vault; book = d .book; sealed = d .sealed; files = f ∷ d .files; spots = d .spots; cards = d .cards }
+known (outRecord r) d = record { vault = d .vault; book = d .book; sealed = r ∷ d .sealed; files = d .files; spots = d .spots; cards = d .cards; begun = d .begun }
+known (outFile f) d = record { vault = d .vault; book = d .book; sealed = d .sealed; files = f ∷ d .files; spots = d .spots; cards = d .cards; begun = d .begun }
 
 abbrev pub spotted : ℕ → Out → Durable → Durable
 spotted p quiet d = d
@@ -116,11 +121,17 @@ carried (S.N k) o d = vaultTo d (setN (d .vault) k)
 carried (S.Record p) o d = spotted p o d
 carried S.File o d = filed o d
 carried (S.Delete p) o d = spotsTo d (spotsFrom p (d .spots))
-carried S.Empty o d = spotsTo d []
+carried S.Empty o d = begunTo (spotsTo d []) none
+
+-- one store not carried out, at a cut: a record put out may have been begun
+abbrev pub cutShort : Out → Durable → Durable
+cutShort quiet d = d
+cutShort (outRecord r) d = begunTo d (some r)
+cutShort (outFile f) d = d
 
 abbrev pub bookedTo : Option Opened → Durable → Durable
 bookedTo none d = d
-bookedTo (some r) d = record { vault = d .vault; book = d .book ++ (r ∷ []); sealed = d .sealed; files = d .files; spots = d .spots; cards = d .cards }
+bookedTo (some r) d = record { vault = d .vault; book = d .book ++ (r ∷ []); sealed = d .sealed; files = d .files; spots = d .spots; cards = d .cards; begun = d .begun }
 
 -- ---- (1) to (6): what lasts
 
@@ -158,13 +169,19 @@ pub record Filed (s : ℕ) (r : List ℕ) (book : List Opened) (files : List Ope
   pub fresh : s ≡ 0 → Upto book r emptyTable
   pub fine : (f : OpenedFile) → FileIn files f → FileWritable f
 
-pub record Carded (v r : List ℕ) (sealed : List Opened) (spots : List Spot) : Type 0 where
+-- a record that the log rules pass over
+abbrev pub Passed : List ℕ → List ℕ → Opened → Type 0
+Passed v r y = (y .number ≤ at r (y .lane)) ⊎ (at v (y .lane) < y .number)
+
+pub record Carded (v r : List ℕ) (sealed : List Opened) (spots : List Spot) (begun : Option Opened) : Type 0 where
   pub top : ℕ → ℕ
   pub consec : Consec top spots
   pub reach : (l : ℕ) → at r l < at v l → (at v l ≤ top l) × (top l ≤ at r l + cnt l spots)
   pub known : (p : Spot) → SpotIn spots p → In sealed (p .rec)
   pub rising : Rising spots
   pub few : length spots ≤ (pointsMax + 1) * listed
+  pub begun-known : (y : Opened) → begun ≡ some y → In sealed y
+  pub begun-passed : (y : Opened) → begun ≡ some y → Passed v r y
 
 pub record CardFiled (s : ℕ) (files cards : List OpenedFile) : Type 0 where
   pub known : (f : OpenedFile) → FileIn cards f → FileIn files f
@@ -176,7 +193,7 @@ pub record Durably (d : Durable) : Type 0 where
   pub sealed : SealedOnce (d .vault .w) (d .sealed)
   pub book : Booked (d .vault .v) (d .vault .r) (d .vault .e) (d .sealed) (d .book)
   pub files : Filed (d .vault .s) (d .vault .r) (d .book) (d .files)
-  pub card : Carded (d .vault .v) (d .vault .r) (d .sealed) (d .spots)
+  pub card : Carded (d .vault .v) (d .vault .r) (d .sealed) (d .spots) (d .begun)
   pub kept : CardFiled (d .vault .s) (d .files) (d .cards)
 
 -- ---- (9): recovering
@@ -327,6 +344,20 @@ ServiceDue c d (D.Checkpoint step) = CheckpointDue c d step
 ServiceDue c d (D.Truncate position step) = TruncateDue c d position step
 ServiceDue c d (D.Recover step) = ⊥
 
+-- a record store and a delete store meet no beginning
+abbrev pub Met : Option Opened → Store → Type 0
+Met o S.Nothing = Unit {0}
+Met o (S.W l k) = Unit {0}
+Met o (S.V l k) = Unit {0}
+Met o (S.R l k) = Unit {0}
+Met o (S.E k) = Unit {0}
+Met o (S.S k) = Unit {0}
+Met o (S.N k) = Unit {0}
+Met o (S.Record p) = o ≡ none
+Met o S.File = Unit {0}
+Met o (S.Delete p) = o ≡ none
+Met o S.Empty = Unit {0}
+
 -- ---- (7) to (10): the state, under the one key
 
 -- the arrays have their lengths
@@ -354,6 +385,7 @@ module _ (key : List ℕ) where
     pub arrays : Arrays (c .journal) (c .points)
     pub table : Full (d .book) (c .table)
     pub common : ServingAt c d (spotsAt c d du)
+    pub clean : d .begun ≡ none
     pub stored : ServiceDue c d du
 
   abbrev pub LinkedAt : State → Durable → Phase → Due → Type 0
@@ -376,24 +408,29 @@ module _ (key : List ℕ) where
     as-record : (r : Opened) → In sealed r → b ≡ bytesOf key r → Known sealed files b
     as-file : (f : OpenedFile) → FileIn files f → b ≡ fileOf key f → Known sealed files b
 
+  pub record SameCard (c : Card) (spots : List Spot) (cards : List OpenedFile) (begun : Option Opened) : Type 0 where
+    pub records : c .records ≡ map (placedOf key) spots
+    pub files : c .files ≡ map (fileOf key) cards
+    pub beginning : c .beginning ≡ begunBytes key begun
+
   pub record Apart (a : Lasting) (d : Durable) : Type 0 where
     pub vault : a .vault ≡ d .vault
     pub book : a .book ≡ d .book
-    pub records : a .card .records ≡ map (placedOf key) (d .spots)
-    pub files : a .card .files ≡ map (fileOf key) (d .cards)
+    pub card : SameCard (a .card) (d .spots) (d .cards) (d .begun)
     pub out : (b : List ℕ) → List·Memᴰ b (map (λ (s : Sealing). s .bytes) (a .sealings)) → Known (d .sealed) (d .files) b
     pub out-record : (r : Opened) → In (d .sealed) r → List·Memᴰ (bytesOf key r) (map (λ (s : Sealing). s .bytes) (a .sealings))
     pub out-file : (f : OpenedFile) → FileIn (d .files) f → List·Memᴰ (fileOf key f) (map (λ (s : Sealing). s .bytes) (a .sealings))
 
-  -- the invariant: what lasts, now and with the pending store done, and the state's tie to the latter
+  -- the invariant: what lasts, after a cut before the pending store is done and with it done, and the state's tie to the latter
   pub record Invariant (w : World) : Type 0 where
     pub before : Durable
     pub after : Durable
-    pub apart : Apart (w .lasting) before
+    pub apart : Apart (broken (w .pending) (w .lasting)) before
     pub apart′ : Apart (settled w) after
     pub now : Durably before
     pub then : Durably after
     pub link : LinkedIf (w .state) after
+    pub met : Met (after .begun) (w .pending .store)
 
   -- ---- what an accepted call keeps
 
@@ -420,7 +457,8 @@ module _ (key : List ℕ) where
   pub record Good (c : State) (st : Store) (put : List ℕ) (adds : Option Opened) (d : Durable) (o : Out) : Type 0 where
     pub puts : Puts o st put
     pub rises : NotLower (d .vault) st
-    pub now : Durably (known o d)
+    pub met : Met (bookedTo adds (carried st o (known o d)) .begun) st
+    pub now : Durably (cutShort o (known o d))
     pub then : Durably (bookedTo adds (carried st o (known o d)))
     pub link : Linked c (bookedTo adds (carried st o (known o d)))
 

@@ -6,6 +6,7 @@ use mathlib.Core.Bool.{Bool, true, false, not, _&&_}
 use mathlib.Core.Option.{Option, none, some}
 use mathlib.Core.Logic.{_⊎_, inl, inr, _≢_}
 use mathlib.Core.List.{List, [], _∷_, _++_, map, List·Memᴰ, List·Memᴰ·head, List·Memᴰ·tail, List·Memᴰ·append-cases, List·Memᴰ·eq-of-singleton}
+use native.Mathlib.Decide.{decLt}
 use native.Mathlib.Omega.{arith}
 use lib.Dec.{leb, ltb, eqb}
 use lib.ListN.{set, length, length-set, length-append}
@@ -33,8 +34,8 @@ use Rattle.protocol.proofs.Lanes.{Put, same, other, put}
 use Rattle.protocol.proofs.Latest.{In, upto-add, full-add}
 use Rattle.protocol.proofs.Card.{Spot, spotsFrom, cnt, cnt-snoc-same, cnt-snoc-other, consec-snoc, rising-snoc, from-snoc}
 use Rattle.protocol.proofs.Listed.{upto-length, upto-set, flag-false, map-snoc}
-use Rattle.protocol.proofs.Invariant.{Durable, quiet, outRecord, Durably, Crowd, Serving, heldSpot, Service, LinkedAt, Good, GoodAnswer, Known, At, markOf, floorOf, nextOf}
-use Rattle.protocol.proofs.StoreLaws.{Up, up-set, lanes-w, lanes-v, sealed-w, sealed-add, book-sealed, book-add, files-book, card-sealed}
+use Rattle.protocol.proofs.Invariant.{Durable, quiet, outRecord, Durably, Crowd, Serving, Holding, heldSpot, Service, LinkedAt, Good, GoodAnswer, Known, At, markOf, floorOf, nextOf}
+use Rattle.protocol.proofs.StoreLaws.{Up, up-set, lanes-w, lanes-v, sealed-w, sealed-add, book-sealed, book-add, files-book, card-begun}
 use Rattle.protocol.proofs.KeepRecover.{good-refuse}
 use Rattle.protocol.proofs.Walks.{walk-accept}
 use Rattle.protocol.proofs.KeepCold.{unseal}
@@ -82,12 +83,14 @@ module _ (key : List ℕ) where
       record {
         puts = tt;
         rises = omega arith;
+        met = tt;
         now = i;
         then = record { lanes = lanes-w lane ln tp (sv .order) (i .lanes); nums = i .nums; sealed = sealed-w up (i .sealed); book = i .book; files = i .files; card = i .card; kept = i .kept };
         link = link-serving key c (accepted c text lane pos) _ e refl refl (record {
           key-is = s .key-is;
           arrays = record { plen = length-set (c .journal .positions) (c .journal .count) pos ∙ ar .plen; llen = length-set (c .journal .lanes) (c .journal .count) lane ∙ ar .llen; ilen = ar .ilen; fewer = lt128; eighth = ar .eighth };
           table = s .table;
+          clean = s .clean;
           common = subst (λ (ms : List Mark). Serving (set w lane (suc (at w lane))) (c .vault .v) (c .vault .r) (c .vault .s) ms (pointsOf (c .points)) (floorOf (c .points)) (suc pos) (d .book) (d .files) (cs ++ (x ∷ []))) (sym mk) (record {
             order = sv .order;
             some-s = sv .some-s;
@@ -143,6 +146,18 @@ module _ (key : List ℕ) where
   unfolding heldRecord
   held-is c k = ap (λ (x : List ℕ). recordBytes (aesGcm x) (c .held .lane) (c .vault .e) (at (c .vault .w) (c .held .lane)) (heldText c)) k
 
+  -- the record that is due is not visible: else the book would have it
+  not-seen : (c : State) (d : Durable) → Durably (At c d) → Holding c (At c d) → Dec (at (c .vault .v) (c .held .lane) < at (c .vault .w) (c .held .lane))
+      → at (c .vault .v) (c .held .lane) < at (c .vault .w) (c .held .lane)
+  not-seen c d i h (yes p) = p
+  not-seen c d i h (no p) =
+      let e = h .exact (c .held .lane) in
+      let k = cnt-snoc-same (d .spots) (heldSpot c) in
+      let y = i .book .whole (c .held .lane) (at (c .vault .w) (c .held .lane)) (omega arith) (omega arith) in
+      let z = h .newest (y .0) (i .book .known (y .0) (y .1)) (y .2) in
+      let n = y .3 in
+      absurd (omega arith)
+
   seal-good : (c : State) (d : Durable) → Durably (At c d) → c .phase ≡ F.Serving → Service key c (At c d) D.Record
       → Good key (withVault c (c .vault) D.Nothing) (S.Record (c .held .position)) (heldRecord c) none (At c d) (outRecord (heldOpened c))
   seal-good c d i e s =
@@ -150,20 +165,22 @@ module _ (key : List ℕ) where
       let h = s .stored in
       let r = heldOpened c in
       let sl = sealed-add {w = c .vault .w} r (omega arith) (record { fine = h .fine; bytes = h .bytes; lane = h .lane; number = i .lanes .lane (c .held .lane) .most; epoch = i .nums .e≤; size = refl }) (h .newest) (i .sealed) in
+      let below : at (c .vault .v) (c .held .lane) < at (c .vault .w) (c .held .lane) = not-seen c d i h (decLt (at (c .vault .v) (c .held .lane)) (at (c .vault .w) (c .held .lane))) in
       record {
         puts = (c .held .position, refl, held-is c (s .key-is));
         rises = tt;
-        now = record { lanes = i .lanes; nums = i .nums; sealed = sl; book = book-sealed r (i .book); files = i .files; card = card-sealed r (i .card); kept = i .kept };
+        met = s .clean;
+        now = record { lanes = i .lanes; nums = i .nums; sealed = sl; book = book-sealed r (i .book); files = i .files; card = card-begun r below (i .card); kept = i .kept };
         then = record {
           lanes = i .lanes;
           nums = i .nums;
           sealed = sl;
           book = book-sealed r (i .book);
           files = i .files;
-          card = card-of (r ∷ d .sealed) (i .lanes) sv (h .exact) (λ p m. kn p (List·Memᴰ·append-cases (d .spots) m));
+          card = card-of (r ∷ d .sealed) (i .lanes) sv (h .exact) (λ p m. kn p (List·Memᴰ·append-cases (d .spots) m)) (s .clean);
           kept = i .kept;
         };
-        link = link-serving key c (withVault c (c .vault) D.Nothing) _ e refl refl (record { key-is = s .key-is; arrays = s .arrays; table = s .table; common = sv; stored = (h .stale, h .exact) });
+        link = link-serving key c (withVault c (c .vault) D.Nothing) _ e refl refl (record { key-is = s .key-is; arrays = s .arrays; table = s .table; common = sv; clean = s .clean; stored = (h .stale, h .exact) });
       }
     where
       kn : (p : Spot) → List·Memᴰ p (d .spots) ⊎ List·Memᴰ p (heldSpot c ∷ []) → In (heldOpened c ∷ d .sealed) (p .rec)
@@ -216,6 +233,7 @@ module _ (key : List ℕ) where
       record {
         puts = tt;
         rises = omega arith;
+        met = tt;
         now = i;
         then = record {
           lanes = dl;
@@ -223,10 +241,10 @@ module _ (key : List ℕ) where
           sealed = i .sealed;
           book = book-add y (i .lanes .vlen) ln m ep nu (i .book);
           files = files-book y (sv .some-s) (s .stored .0) (omega arith) (i .files);
-          card = card-of (d .sealed) dl sv′ (s .stored .1) (i .card .known);
+          card = card-of (d .sealed) dl sv′ (s .stored .1) (i .card .known) (s .clean);
           kept = i .kept;
         };
-        link = link-quiet key c (committed c y) _ e du refl refl refl (record { key-is = s .key-is; arrays = s .arrays; table = full-add y (i .sealed .fine y m) (s .table); common = sv′; stored = s .stored });
+        link = link-quiet key c (committed c y) _ e du refl refl refl (record { key-is = s .key-is; arrays = s .arrays; table = full-add y (i .sealed .fine y m) (s .table); common = sv′; clean = s .clean; stored = s .stored });
       }
 
   in-turn : (c : State) (r : Opened) → outOfTurn c r ≡ false → (r .number ≡ suc (at (c .vault .v) (r .lane))) × (r .number ≤ at (c .vault .w) (r .lane))

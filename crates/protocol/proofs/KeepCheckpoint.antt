@@ -60,21 +60,24 @@ module _ (key : List ℕ) where
   check-N c d i e s ts tn = record {
     puts = tt;
     rises = omega arith;
+    met = tt;
     now = i;
     then = record { lanes = i .lanes; nums = record { e≤ = i .nums .e≤; s≤ = i .nums .s≤; n≤ = tn }; sealed = i .sealed; book = i .book; files = i .files; card = i .card; kept = i .kept };
-    link = link-serving key c (withVault c (setN (c .vault) (suc (c .vault .n))) (D.Checkpoint K.File)) _ e refl refl (record { key-is = s .key-is; arrays = s .arrays; table = s .table; common = s .common; stored = (s .stored .0, s .stored .1, omega arith) });
+    link = link-serving key c (withVault c (setN (c .vault) (suc (c .vault .n))) (D.Checkpoint K.File)) _ e refl refl (record { key-is = s .key-is; arrays = s .arrays; table = s .table; clean = s .clean; common = s .common; stored = (s .stored .0, s .stored .1, omega arith) });
   }
 
   check-file : (c : State) (d : Durable) → Durably (At c d) → c .phase ≡ F.Serving → Service key c (At c d) (D.Checkpoint K.File) → Good key (withVault c (c .vault) (D.Checkpoint K.Version)) S.File (tableFile c) none (At c d) (outFile (nextFile key c))
   check-file c d i e s = let sv = s .common in record {
     puts = (refl, file-is key c (s .key-is));
     rises = tt;
+    met = tt;
     now = file-now key c d i (s .table) (s .stored .2);
     then = file-then key c d i (s .table) (s .stored .2);
     link = link-serving key c (withVault c (c .vault) (D.Checkpoint K.Version)) _ e refl refl (record {
       key-is = s .key-is;
       arrays = s .arrays;
       table = s .table;
+      clean = s .clean;
       common = record {
         order = sv .order;
         some-s = sv .some-s;
@@ -103,12 +106,14 @@ module _ (key : List ℕ) where
   check-S c d i e s = let sv = s .common in let ar = s .arrays in let ps = pointsOf (c .points) in let pk : pointsOf (checkpointed c .points) ≡ map coveredPoint ps = covered-points (c .points) in record {
     puts = tt;
     rises = omega arith;
+    met = tt;
     now = i;
     then = record { lanes = i .lanes; nums = record { e≤ = i .nums .e≤; s≤ = let z = s .stored .1 in omega arith; n≤ = i .nums .n≤ }; sealed = i .sealed; book = i .book; files = files-s (i .files); card = i .card; kept = kept-s (s .stored .2) (i .kept) };
     link = link-serving key c (checkpointed c) _ e refl refl (record {
       key-is = s .key-is;
       arrays = record { plen = ar .plen; llen = ar .llen; ilen = length-map (c .points .items) coveredPoint ∙ ar .ilen; fewer = ar .fewer; eighth = ar .eighth };
       table = s .table;
+      clean = s .clean;
       common = subst (λ (q : List Point). Serving (c .vault .w) (c .vault .v) (c .vault .r) (suc (c .vault .s)) (marksOf (c .journal)) q (floorOf (c .points)) (nextOf (c .journal)) (d .book) (d .files) (d .spots)) (sym pk) (record {
         order = sv .order;
         some-s = omega arith;

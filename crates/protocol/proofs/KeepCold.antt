@@ -48,7 +48,7 @@ module _ (key : List ℕ) where
       go true c h = tt
       go false true h = tt
       go false false h = let e = h refl in
-          (quiet, record { puts = tt; rises = tt; now = i; then = i; link = record { same = e .0; rest = record { key-is = e .1; due = refl; listed-none = refl; pointed-none = refl } } })
+          (quiet, record { puts = tt; rises = tt; met = tt; now = i; then = i; link = record { same = e .0; rest = record { key-is = e .1; due = refl; listed-none = refl; pointed-none = refl } } })
 
   -- what opens as a record and was put out was sealed as one
   pub unseal : {w : List ℕ} {s : List Opened} {fs : List OpenedFile} (b : List ℕ) (r : Opened) → SealedOnce w s → Known key s fs b → openRecord (aesGcm key) b ≡ some r → In s r
@@ -90,6 +90,7 @@ module _ (key : List ℕ) where
         record {
           puts = tt;
           rises = omega arith;
+          met = tt;
           now = i;
           then = record { lanes = i .lanes; nums = record { e≤ = i .nums .e≤; s≤ = i .nums .s≤; n≤ = omega arith }; sealed = i .sealed; book = i .book; files = i .files; card = i .card; kept = i .kept };
           link = record { same = refl; rest = record { key-is = kk; table = f; stored = record { s-room = omega arith; n-room = omega arith; e-room = omega arith } } };

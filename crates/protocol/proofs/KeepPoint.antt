@@ -126,12 +126,14 @@ module _ (key : List ℕ) where
       record {
         puts = tt;
         rises = tt;
+        met = tt;
         now = i;
         then = i;
         link = link-quiet key c (pointed c pos) _ e du refl refl refl (record {
           key-is = s .key-is;
           arrays = record { plen = lg .0; llen = lg .1; ilen = length-set (c .points .items) (c .points .count) p ∙ ar .ilen; fewer = let z = lg .2 in omega arith; eighth = ei };
           table = s .table;
+          clean = s .clean;
           common = subst₃ (λ (m : List Mark) (q : List Point) (n : ℕ). Serving w (c .vault .v) (c .vault .r) (c .vault .s) m q (suc pos) n (d .book) (d .files) cs) (sym mk) (sym pk) (sym nx) (record {
             order = sv .order;
             some-s = sv .some-s;

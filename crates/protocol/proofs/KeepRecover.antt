@@ -106,6 +106,7 @@ module _ (key : List ℕ) where
         record {
           puts = (refl, file-is c (r .key-is));
           rises = tt;
+          met = tt;
           now = file-now c d i (r .table) h;
           then = file-then c d i (r .table) h;
           link = link-rec c _ (c .vault) (D.Recover (G.Number (M.S b))) (r .key-is) e refl (r .table) (r .stored, has-next c d);
@@ -125,6 +126,7 @@ module _ (key : List ℕ) where
     record {
       puts = tt;
       rises = omega arith;
+      met = tt;
       now = i;
       then = record { lanes = i .lanes; nums = record { e≤ = i .nums .e≤; s≤ = let z = s-next c b (r .stored .0 .s-room) in omega arith; n≤ = i .nums .n≤ }; sealed = i .sealed; book = i .book; files = files-s (i .files); card = i .card; kept = kept-s (r .stored .1) (i .kept) };
       link = link-rec c _ (setS (c .vault) (suc (c .vault .s))) (afterVersion b) (r .key-is) e refl (r .table) (version-due (c .vault) d b i (r .stored));
@@ -138,6 +140,7 @@ module _ (key : List ℕ) where
     record {
       puts = tt;
       rises = omega arith;
+      met = tt;
       now = i;
       then = record { lanes = i .lanes; nums = record { e≤ = i .nums .e≤; s≤ = i .nums .s≤; n≤ = let z = a .n-room in omega arith }; sealed = i .sealed; book = i .book; files = i .files; card = i .card; kept = i .kept };
       link = link-rec c _ (setN (c .vault) (suc (c .vault .n))) (D.Recover (G.File true)) (r .key-is) e refl (r .table) (record { s-room = a .s-room; n-room = let z = a .n-room in omega arith; e-room = a .e-room });
@@ -168,6 +171,7 @@ module _ (key : List ℕ) where
         record {
           puts = tt;
           rises = ln .gone;
+          met = tt;
           now = i;
           then = record { lanes = i′; nums = i .nums; sealed = i .sealed; book = book-r u (i .book); files = files-r (x .r) (s .some-s) (λ f m v. full-upto (x .r) (s .full f m v)) (i .files); card = card-r u (i .card); kept = i .kept };
           link = link-rec c (vaultTo d x) x (afterR (c .vault) l) (r .key-is) e refl (r .table)
@@ -187,6 +191,7 @@ module _ (key : List ℕ) where
         record {
           puts = tt;
           rises = omega arith;
+          met = tt;
           now = i;
           then = record {
             lanes = i .lanes;
@@ -223,6 +228,7 @@ module _ (key : List ℕ) where
         record {
           puts = tt;
           rises = ln .seen;
+          met = tt;
           now = i;
           then = record { lanes = i′; nums = i .nums; sealed = i .sealed; book = book-free (c .vault .e) u f (i .book); files = i .files; card = card-free f (i .card); kept = i .kept };
           link = link-rec c (vaultTo d x) x (afterV l) (r .key-is) e refl (r .table)
@@ -241,6 +247,7 @@ module _ (key : List ℕ) where
         record {
           puts = tt;
           rises = tt;
+          met = tt;
           now = i;
           then = record { lanes = i .lanes; nums = i .nums; sealed = i .sealed; book = i .book; files = i .files; card = card-empty f; kept = i .kept };
           link = record {
@@ -249,6 +256,7 @@ module _ (key : List ℕ) where
               key-is = r .key-is;
               arrays = record { plen = refl; llen = refl; ilen = refl; fewer = omega arith; eighth = omega arith };
               table = r .table;
+              clean = refl;
               common = record {
                 order = λ l. let a = rw l in let b = vw l in omega arith;
                 some-s = s .some-s;

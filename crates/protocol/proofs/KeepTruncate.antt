@@ -146,17 +146,17 @@ is-covered p e = not-false (p .covered) e
 
 module _ (key : List ℕ) where
   -- behind R of lane j: the next lane, or the deletion
-  cut-due : (c : State) (d : Durable) (j pos : ℕ) (b : Bool) → ltb (suc j) lanes ≡ b → j < lanes → c .key ≡ key → Arrays (c .journal) (c .points) → Full (d .book) (c .table) → ServingAt c d (d .spots) → Cutting c d (suc j) pos
+  cut-due : (c : State) (d : Durable) (j pos : ℕ) (b : Bool) → ltb (suc j) lanes ≡ b → j < lanes → c .key ≡ key → Arrays (c .journal) (c .points) → Full (d .book) (c .table) → d .begun ≡ none → ServingAt c d (d .spots) → Cutting c d (suc j) pos
       → Service key c d (D.Truncate pos (cond b (L.R (suc j)) L.Delete))
-  cut-due c d j pos true e h ky ar t sv k = record { key-is = ky; arrays = ar; table = t; common = sv; stored = k }
-  cut-due c d j pos false e h ky ar t sv k = let z = ltb-false (suc j) lanes e in let y : suc j ≡ lanes = omega arith in
-      record { key-is = ky; arrays = ar; table = t; common = sv; stored = subst (λ (x : ℕ). Cutting c d x pos) y k }
+  cut-due c d j pos true e h ky ar t cl sv k = record { key-is = ky; arrays = ar; table = t; clean = cl; common = sv; stored = k }
+  cut-due c d j pos false e h ky ar t cl sv k = let z = ltb-false (suc j) lanes e in let y : suc j ≡ lanes = omega arith in
+      record { key-is = ky; arrays = ar; table = t; clean = cl; common = sv; stored = subst (λ (x : ℕ). Cutting c d x pos) y k }
 
   lane-good : (c : State) (d : Durable) (pos j : ℕ) (p : Point) → Durably (At c d) → c .phase ≡ F.Serving → ServingAt c d (d .spots)
-      → (c .key ≡ key) → Arrays (c .journal) (c .points) → Full (d .book) (c .table) → Cutting c (At c d) j pos → findPoint pos (pointsOf (c .points)) ≡ some p → j < lanes
+      → (c .key ≡ key) → Arrays (c .journal) (c .points) → Full (d .book) (c .table) → d .begun ≡ none → Cutting c (At c d) j pos → findPoint pos (pointsOf (c .points)) ≡ some p → j < lanes
       → Good key (withVault c (setR (c .vault) j (at (p .counts) j)) (afterTruncateR j pos)) (S.R j (at (p .counts) j)) [] none (At c d) quiet
   unfolding afterTruncateR
-  lane-good c d pos j p i e sv ky ar t k fp h =
+  lane-good c d pos j p i e sv ky ar t cl k fp h =
       let fo = found-in pos (pointsOf (c .points)) p fp in
       let po = sv .pointed p (fo .0) in
       let pe : k .at-point ≡ p = let q = k .found in cc in
@@ -174,10 +174,11 @@ module _ (key : List ℕ) where
       record {
         puts = tt;
         rises = omega arith;
+        met = tt;
         now = i;
         then = record { lanes = dl; nums = i .nums; sealed = i .sealed; book = book-r up (i .book); files = files-r r′ (sv .some-s) (λ f m v. upto-set j lr (i .files .held f m v) (po .covers cv f m v)) (i .files); card = card-r up (i .card); kept = i .kept };
         link = link-serving key c (withVault c (setR (c .vault) j (at (p .counts) j)) (afterTruncateR j pos)) _ e refl refl
-            (cut-due (withVault c (setR (c .vault) j (at (p .counts) j)) (afterTruncateR j pos)) _ j pos (ltb (suc j) lanes) refl h ky ar t
+            (cut-due (withVault c (setR (c .vault) j (at (p .counts) j)) (afterTruncateR j pos)) _ j pos (ltb (suc j) lanes) refl h ky ar t cl
             (record { order = λ l. ord l (sv .order l) vi (put r j (at (p .counts) j) lr l); some-s = sv .some-s; consec = sv .consec; rising = sv .rising; under = sv .under; marked = sv .marked; few = sv .few; base = sv .base; pointed = sv .pointed; ascending = sv .ascending; crowd = sv .crowd; total = sv .total; eight = sv .eight })
             (record {
               stale = k .stale;
@@ -202,9 +203,9 @@ module _ (key : List ℕ) where
       left-it l ge (other n q) = let z = k .left l (omega arith) in omega arith
 
   delete-good : (c : State) (d : Durable) (pos : ℕ) → Durably (At c d) → c .phase ≡ F.Serving → ServingAt c d (d .spots)
-      → (c .key ≡ key) → Arrays (c .journal) (c .points) → Full (d .book) (c .table) → Cutting c (At c d) lanes pos → Good key (withPoints c (droppedTo (c .points) pos) D.Nothing) (S.Delete pos) [] none (At c d) quiet
+      → (c .key ≡ key) → Arrays (c .journal) (c .points) → Full (d .book) (c .table) → d .begun ≡ none → Cutting c (At c d) lanes pos → Good key (withPoints c (droppedTo (c .points) pos) D.Nothing) (S.Delete pos) [] none (At c d) quiet
   unfolding droppedTo
-  delete-good c d pos i e sv ky ar t k =
+  delete-good c d pos i e sv ky ar t cl k =
       let p = k .at-point in
       let fo = found-in pos (pointsOf (c .points)) p (k .found) in
       let po = sv .pointed p (fo .0) in
@@ -232,12 +233,14 @@ module _ (key : List ℕ) where
       record {
         puts = tt;
         rises = tt;
+        met = cl;
         now = i;
-        then = record { lanes = i .lanes; nums = i .nums; sealed = i .sealed; book = i .book; files = i .files; card = card-of (d .sealed) (i .lanes) sv′ ex (λ y m. i .card .known y (mem-from pos cs y m .0)); kept = i .kept };
+        then = record { lanes = i .lanes; nums = i .nums; sealed = i .sealed; book = i .book; files = i .files; card = card-of (d .sealed) (i .lanes) sv′ ex (λ y m. i .card .known y (mem-from pos cs y m .0)) cl; kept = i .kept };
         link = link-serving key c (withPoints c (droppedTo (c .points) pos) D.Nothing) _ e refl refl (record {
           key-is = ky;
           arrays = record { plen = ar .plen; llen = ar .llen; ilen = dropped-length (c .points) pos (sv′ .eight); fewer = ar .fewer; eighth = sv′ .eight };
           table = t;
+          clean = cl;
           common = subst (λ (q : List Point). Serving (c .vault .w) (c .vault .v) (c .vault .r) (c .vault .s) (marksOf (c .journal)) q (floorOf (c .points)) (nextOf (c .journal)) (d .book) (d .files) (spotsFrom pos cs)) (sym (dropped-points (c .points) pos)) sv′;
           stored = (k .stale, ex);
         });
@@ -248,27 +251,27 @@ module _ (key : List ℕ) where
       exact l x (no h) = let z = k .left l (omega arith) in let y = cnt-from l pos (d .spots) in
           let b : at (c .vault .w) l ≡ 0 = List·getD-eq-default (c .vault .w) 0 (let z : length (c .vault .w) ≤ l = omega (arith, i .lanes .wlen) in z) in omega arith
 
-  keep-lane : (c : State) (d : Durable) (pos j : ℕ) (p : Point) → Durably (At c d) → c .phase ≡ F.Serving → ServingAt c d (d .spots) → c .key ≡ key → Arrays (c .journal) (c .points) → Full (d .book) (c .table)
+  keep-lane : (c : State) (d : Durable) (pos j : ℕ) (p : Point) → Durably (At c d) → c .phase ≡ F.Serving → ServingAt c d (d .spots) → c .key ≡ key → Arrays (c .journal) (c .points) → Full (d .book) (c .table) → d .begun ≡ none
       → findPoint pos (pointsOf (c .points)) ≡ some p → Cutting c (At c d) j pos → GoodAnswer key (At c d) none (truncateLane c pos j p)
   unfolding truncateLane putR
-  keep-lane c d pos j p i e sv ky ar t f k = good-step key _ none c (leb lanes j) _ _ _ _ (λ r. (quiet, lane-good c d pos j p i e sv ky ar t k f (leb-false lanes j r)))
+  keep-lane c d pos j p i e sv ky ar t cl f k = good-step key _ none c (leb lanes j) _ _ _ _ (λ r. (quiet, lane-good c d pos j p i e sv ky ar t cl k f (leb-false lanes j r)))
 
   keep-first : (c : State) (d : Durable) (pos : ℕ) (o : Option Point) → Durably (At c d) → c .phase ≡ F.Serving → Service key c (At c d) D.Nothing → findPoint pos (pointsOf (c .points)) ≡ o → GoodAnswer key (At c d) none (truncateFirst c pos o)
   unfolding truncateFirst
   keep-first c d pos none i e s f = tt
   keep-first c d pos (some p) i e s f = good-refuse key _ none _ c 14 [] _ (λ r. let cv = is-covered p r in
-      keep-lane c d pos 0 p i e (s .common) (s .key-is) (s .arrays) (s .table) f
+      keep-lane c d pos 0 p i e (s .common) (s .key-is) (s .arrays) (s .table) (s .clean) f
       (record { stale = s .stored .0; at-point = p; found = f; covered = cv; did = λ l lt. absurd (omega arith); left = λ l ge. s .stored .1 l }))
 
   keep-next : (c : State) (d : Durable) (pos lane : ℕ) (o : Option Point) → Durably (At c d) → c .phase ≡ F.Serving → Service key c (At c d) (D.Truncate pos (L.R lane)) → findPoint pos (pointsOf (c .points)) ≡ o → GoodAnswer key (At c d) none (truncateNext c pos lane o)
   unfolding truncateNext
   keep-next c d pos lane none i e s f = tt
-  keep-next c d pos lane (some p) i e s f = keep-lane c d pos lane p i e (s .common) (s .key-is) (s .arrays) (s .table) f (s .stored)
+  keep-next c d pos lane (some p) i e s f = keep-lane c d pos lane p i e (s .common) (s .key-is) (s .arrays) (s .table) (s .clean) f (s .stored)
 
   keep-step : (c : State) (d : Durable) (pos : ℕ) (step : TruncateStep) → Durably (At c d) → c .phase ≡ F.Serving → Service key c (At c d) (D.Truncate pos step) → GoodAnswer key (At c d) none (truncateStep c pos step)
   unfolding truncateStep truncateDelete
   keep-step c d pos (L.R lane) i e s = keep-next c d pos lane (findPoint pos (pointsOf (c .points))) i e s refl
-  keep-step c d pos L.Delete i e s = (quiet, delete-good c d pos i e (s .common) (s .key-is) (s .arrays) (s .table) (s .stored))
+  keep-step c d pos L.Delete i e s = (quiet, delete-good c d pos i e (s .common) (s .key-is) (s .arrays) (s .table) (s .clean) (s .stored))
 
   keep-due : (c : State) (d : Durable) (pos : ℕ) (du : Due) → Durably (At c d) → c .phase ≡ F.Serving → Service key c (At c d) du → GoodAnswer key (At c d) none (truncateDue c pos du)
   unfolding truncateDue

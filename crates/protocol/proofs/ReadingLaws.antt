@@ -1,9 +1,9 @@
--- The ways through a reading, once: the record at the offset is passed over, enters or stops the reading, and behind the end of the log nothing
--- changes. So what holds of how far a reading has come, with so many records left at the most, and is kept on each of these ways, holds at its end.
+-- The ways through a reading, once: the record at the offset is passed over, enters or stops the reading, and where the log does not go on
+-- nothing changes. So what holds of how far a reading has come, with so many records left at the most, and is kept on each of these ways, holds at its end.
 -- Assumes nothing.
 use Prim.Native.Nat.{ℕ, zero, suc, _≤_, _<_}
 use mathlib.Core.Path.{_≡_, refl, ap, subst, _∙_}
-use mathlib.Core.Bool.{Bool, true, false, cond, not}
+use mathlib.Core.Bool.{Bool, true, false, cond, not, _&&_}
 use mathlib.Core.Option.{Option, none, some}
 use mathlib.Core.List.{List, []}
 use native.Mathlib.Omega.{arith}
@@ -16,10 +16,11 @@ use Rattle.table.specs.declared.Table.{Table}
 use Rattle.table.specs.Table.{lanes, entered}
 use Rattle.sealed.specs.Aead.{Aead}
 use Rattle.sealed.specs.Record.{Opened}
-use Rattle.sealed.specs.Log.{recordAt, recordsTo}
+use Rattle.sealed.specs.Log.{recordAt, recordsTo, tornAt}
 use Rattle.sealed.proofs.LogTrip.{records-nil}
+use Rattle.sealed.proofs.TornLaws.{records-torn}
 use Rattle.protocol.specs.declared.Vault.{Vault}
-use Rattle.protocol.specs.Replay.{Reading, Read, stopped, reading, passedOver, orStop, behind, stepOpened, step, stepOn, steps, ended, replay}
+use Rattle.protocol.specs.Replay.{Reading, Read, stopped, reading, passedOver, orStop, behind, stepOpened, step, goesOn, stepOn, steps, ended, replay}
 use Rattle.protocol.proofs.MissingLaws.{Reached, ends-reached}
 
 -- behind a record that is passed over, and behind one that enters
@@ -41,14 +42,20 @@ not-passed x r p =
     let high = ltb (at (x .v) (r .lane)) (r .number) in
     (leb-false _ _ (or-left low high p), ltb-false _ _ (or-right low high p))
 
--- behind the end of a log no record is left
-pub none-left : (log : List ℕ) (offset n : ℕ) → length log ≤ offset → recordsTo n (drop offset log) ≡ []
-none-left log offset n p = ap (recordsTo n) (drop-of-length-le log p) ∙ records-nil n
+-- where the log does not go on no whole record is left
+pub none-left : (log : List ℕ) (offset n : ℕ) → goesOn log offset ≡ false → recordsTo n (drop offset log) ≡ []
+unfolding goesOn
+none-left log offset n p = go (ltb offset (length log)) refl (tornAt log offset) refl p
+  where
+    go : (b : Bool) → ltb offset (length log) ≡ b → (c : Bool) → tornAt log offset ≡ c → (b && not c) ≡ false → recordsTo n (drop offset log) ≡ []
+    go false e c t p = ap (recordsTo n) (drop-of-length-le log (ltb-false _ _ e)) ∙ records-nil n
+    go true e true t p = records-torn log offset n t
+    go true e false t p = let z : _≡_ {A = ℕ} 0 1 = cc in absurd (omega arith)
 
 module _ (a : Aead) (x : Vault) (log : List ℕ) (P : ℕ → Reading → Type 0)
     (passes : (n : ℕ) (g : Reading) (r : Opened) → P (suc n) g → recordAt a log (g .offset) ≡ some r → passedOver x r ≡ true → P n (passing g r))
     (enters : (n : ℕ) (g : Reading) (r : Opened) → P (suc n) g → recordAt a log (g .offset) ≡ some r → at (x .r) (r .lane) < r .number → r .number ≤ at (x .v) (r .lane) → r .number ≡ suc (at (g .last) (r .lane)) → P n (entering g r))
-    (ends : (n : ℕ) (g : Reading) → P (suc n) g → length log ≤ g .offset → P n g) where
+    (ends : (n : ℕ) (g : Reading) → P (suc n) g → goesOn log (g .offset) ≡ false → P n g) where
   -- with n records left at the most; of a reading that was stopped nothing is said
   Kept : ℕ → Read → Type 0
   Kept n (stopped k vs) = Unit {0}
@@ -78,7 +85,7 @@ module _ (a : Aead) (x : Vault) (log : List ℕ) (P : ℕ → Reading → Type 0
   unfolding stepOn step Kept
   kept-on n (stopped k vs) h = tt
   kept-on n (reading g) h =
-      kept-cond n (ltb (g .offset) (length log)) _ _ (λ p. kept-opened n g (recordAt a log (g .offset)) refl h) (λ p. ends n g h (ltb-false _ _ p))
+      kept-cond n (goesOn log (g .offset)) _ _ (λ p. kept-opened n g (recordAt a log (g .offset)) refl h) (λ p. ends n g h p)
 
   -- several
   kept-steps : (n : ℕ) (d : Read) → Kept n d → Kept 0 (steps n a x log d)

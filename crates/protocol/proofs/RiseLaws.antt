@@ -9,7 +9,7 @@ use mathlib.Core.List.{List, [], _∷_}
 use native.Mathlib.Omega.{arith}
 use Rattle.sealed.specs.Record.{Opened}
 use Rattle.protocol.specs.Said.{Said, refused, taken, Answered}
-use Rattle.protocol.specs.History.{Call, Event, call, cut, World, Lasting, Card, newLasting, newWorld, settled, done, vaultAfter, withSealings, afterSaid, afterAnswer, answer, addsOf, next, run, Honest, Premises, FaithfulFile}
+use Rattle.protocol.specs.History.{Call, Event, call, cut, World, Lasting, Card, newLasting, newWorld, settled, broken, done, vaultAfter, withSealings, afterSaid, afterAnswer, answer, addsOf, next, run, Honest, Premises, FaithfulFile}
 use Rattle.protocol.specs.Claim.{after, Listed}
 use Rattle.protocol.specs.Beside.{NotLower, NoStoreLowers, StoredSNeverFalls, Lacks, SameFaith, OlderFilesMayGo}
 use Rattle.protocol.specs.declared.Vault.{Vault}
@@ -79,7 +79,7 @@ module _ (key : List ℕ) where
   call-lasts w k = answer-lasts (settled w) (w .state) (addsOf key k) (answer (w .state) k)
 
   next-raises : (w : World) (e : Event) → Invariant key w → Honest key w e → Raises (next key w e)
-  unfolding done next
+  unfolding done next broken
   next-raises w (call k) i h =
       s-after (next key w (call k) .pending .store) (next key w (call k) .lasting .vault)
       (subst (λ (x : Vault). NotLower x (next key w (call k) .pending .store)) (sym (call-lasts w k)) (rises-at w i k h))
@@ -87,7 +87,7 @@ module _ (key : List ℕ) where
   next-raises w (cut false) i h = s-after S.Nothing (w .lasting .vault) tt
 
   next-keeps : (w : World) (e : Event) → Raises w → w .lasting .vault .s ≤ next key w e .lasting .vault .s
-  unfolding next
+  unfolding next broken
   next-keeps w (call k) r = subst (λ (x : Vault). w .lasting .vault .s ≤ x .s) (sym (call-lasts w k)) r
   next-keeps w (cut true) r = r
   next-keeps w (cut false) r = omega arith

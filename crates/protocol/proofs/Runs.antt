@@ -24,14 +24,15 @@ use Rattle.protocol.specs.declared.State.{State}
 use Rattle.protocol.specs.declared.Phase.{Phase}
 use Rattle.protocol.specs.declared.Phase.the-variants as F
 use Rattle.protocol.proofs.Latest.{upto-empty}
-use Rattle.protocol.proofs.Invariant.{Durable, vaultTo, known, carried, bookedTo, Durably, Cold, LinkedAt, Linked, LinkedIf, Known, Apart, Invariant, GoodSaid, GoodAnswer, At}
+use Rattle.protocol.proofs.Invariant.{Durable, vaultTo, known, carried, cutShort, bookedTo, Durably, Cold, LinkedAt, Linked, LinkedIf, Known, Apart, Invariant, GoodSaid, GoodAnswer, At}
 use Rattle.protocol.proofs.KeepRecover.{good-refuse, keep-due}
 use Rattle.protocol.proofs.KeepCold.{keep-load, keep-cold, TrustedLog, TrustedFile}
 use Rattle.protocol.proofs.KeepAccept.{keep-accept, keep-seal, keep-commit}
 use Rattle.protocol.proofs.KeepPoint.{keep-point}
 use Rattle.protocol.proofs.KeepCheckpoint.{keep-checkpoint}
 use Rattle.protocol.proofs.KeepTruncate.{keep-truncate}
-use Rattle.protocol.proofs.Apart.{apart-still, apart-known, apart-done}
+use Rattle.protocol.proofs.Apart.{apart-still, apart-uncut, apart-known, apart-done, apart-cut}
+use Rattle.protocol.proofs.StoreLaws.{no-begun}
 
 -- ---- a new vault
 
@@ -43,7 +44,7 @@ at-zero l = go (decLt l lanes)
     go (no h) = List·getD-eq-default (replicate lanes 0) 0 (let z = length-replicate {A = ℕ} lanes 0 in let y : length {A = ℕ} (replicate lanes 0) ≤ l = omega arith in y)
 
 abbrev newDurable : Durable
-newDurable = record { vault = newVault; book = []; sealed = []; files = []; spots = []; cards = [] }
+newDurable = record { vault = newVault; book = []; sealed = []; files = []; spots = []; cards = []; begun = none }
 
 new-durably : Durably newDurable
 unfolding newVault
@@ -53,18 +54,18 @@ new-durably = record {
   sealed = record { small = λ r m. absurd (List·Memᴰ·not-nil m); fine = λ r m. absurd (List·Memᴰ·not-nil m); single = λ a b m. absurd (List·Memᴰ·not-nil m) };
   book = record { known = λ r m. absurd (List·Memᴰ·not-nil m); seen = λ r m. absurd (List·Memᴰ·not-nil m); whole = λ l n p q. absurd (let z = at-zero l in omega arith) };
   files = record { next = λ f m. absurd (List·Memᴰ·not-nil m); full = λ f m. absurd (List·Memᴰ·not-nil m); held = λ f m. absurd (List·Memᴰ·not-nil m); fresh = λ e. upto-empty _; fine = λ f m. absurd (List·Memᴰ·not-nil m) };
-  card = record { top = λ l. 0; consec = tt; reach = λ l h. absurd (let z = at-zero l in omega arith); known = λ p m. absurd (List·Memᴰ·not-nil m); rising = tt; few = omega arith };
+  card = record { top = λ l. 0; consec = tt; reach = λ l h. absurd (let z = at-zero l in omega arith); known = λ p m. absurd (List·Memᴰ·not-nil m); rising = tt; few = omega arith; begun-known = λ b e. no-begun b e; begun-passed = λ b e. no-begun b e };
   kept = record { known = λ f m. absurd (List·Memᴰ·not-nil m); have = λ h. absurd (omega arith) };
 }
 
 module _ (key : List ℕ) where
   new-apart : Apart key newLasting newDurable
   unfolding newLasting
-  new-apart = record { vault = refl; book = refl; records = refl; files = refl; out = λ b m. absurd (List·Memᴰ·not-nil m); out-record = λ r m. absurd (List·Memᴰ·not-nil m); out-file = λ f m. absurd (List·Memᴰ·not-nil m) }
+  new-apart = record { vault = refl; book = refl; card = record { records = refl; files = refl; beginning = refl }; out = λ b m. absurd (List·Memᴰ·not-nil m); out-record = λ r m. absurd (List·Memᴰ·not-nil m); out-file = λ f m. absurd (List·Memᴰ·not-nil m) }
 
   pub new-invariant : Invariant key newWorld
   unfolding newWorld
-  new-invariant = record { before = newDurable; after = newDurable; apart = new-apart; apart′ = apart-still key newLasting newDurable new-apart; now = new-durably; then = new-durably; link = tt }
+  new-invariant = record { before = newDurable; after = newDurable; apart = apart-uncut key newLasting newDurable new-apart; apart′ = apart-still key newLasting newDurable new-apart; now = new-durably; then = new-durably; link = tt; met = tt }
 
   -- ---- one call
 
@@ -145,22 +146,23 @@ module _ (key : List ℕ) where
   after-said : (a : Lasting) (d : Durable) (s : Option State) (adds : Option Opened) (sa : Said) (c : State) (put : List ℕ) → Apart key a d → Durably d → LinkedIf key s d → GoodSaid key sa c put adds d
       → Invariant key (afterSaid sa a s adds c put)
   unfolding afterSaid
-  after-said a d s adds (refused n vs) c put h i l g = record { before = d; after = d; apart = h; apart′ = apart-still key a d h; now = i; then = i; link = l }
+  after-said a d s adds (refused n vs) c put h i l g = record { before = d; after = d; apart = apart-uncut key a d h; apart′ = apart-still key a d h; now = i; then = i; link = l; met = tt }
   after-said a d s adds (taken st n) c put h i l (o, g) =
       let k = apart-known key a d c o st put (g .puts) h in
       record {
-        before = known o d;
+        before = cutShort o (known o d);
         after = bookedTo adds (carried st o (known o d));
-        apart = k;
+        apart = apart-cut key _ (known o d) o st put adds (g .puts) k;
         apart′ = apart-done key _ (known o d) o st put adds (g .puts) k;
         now = g .now;
         then = g .then;
         link = g .link;
+        met = g .met;
       }
 
   after-answer : (a : Lasting) (d : Durable) (s : Option State) (adds : Option Opened) (r : Option Answered) → Apart key a d → Durably d → LinkedIf key s d → GoodIf d adds r → Invariant key (afterAnswer a s adds r)
   unfolding afterAnswer
-  after-answer a d s adds none h i l g = record { before = d; after = d; apart = h; apart′ = apart-still key a d h; now = i; then = i; link = l }
+  after-answer a d s adds none h i l g = record { before = d; after = d; apart = apart-uncut key a d h; apart′ = apart-still key a d h; now = i; then = i; link = l; met = tt }
   after-answer a d s adds (some r) h i l g = after-said a d s adds (r .said) (r .state) (r .put) h i l g
 
   pub next-invariant : (w : World) (e : Event) → Invariant key w → Honest key w e → Invariant key (next key w e)
@@ -168,8 +170,8 @@ module _ (key : List ℕ) where
   next-invariant w (call k) i h =
       let d = i .after in
       after-answer (settled w) d (w .state) (addsOf key k) (answer (w .state) k) (i .apart′) (i .then) (i .link) (keep-answer (w .state) k d (i .then) (i .link) (trusted w d k (i .apart′) h))
-  next-invariant w (cut true) i h = record { before = i .after; after = i .after; apart = i .apart′; apart′ = apart-still key _ _ (i .apart′); now = i .then; then = i .then; link = tt }
-  next-invariant w (cut false) i h = record { before = i .before; after = i .before; apart = i .apart; apart′ = apart-still key _ _ (i .apart); now = i .now; then = i .now; link = tt }
+  next-invariant w (cut true) i h = record { before = i .after; after = i .after; apart = apart-uncut key _ _ (i .apart′); apart′ = apart-still key _ _ (i .apart′); now = i .then; then = i .then; link = tt; met = tt }
+  next-invariant w (cut false) i h = record { before = i .before; after = i .before; apart = apart-uncut key _ _ (i .apart); apart′ = apart-still key _ _ (i .apart); now = i .now; then = i .now; link = tt; met = tt }
 
   -- ---- every list
 

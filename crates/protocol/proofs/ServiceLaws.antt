@@ -280,7 +280,7 @@ module _ (key : List ℕ) where
       let cs = i .durable .spots in
       ap (unseenBelow position (c .vault .w) (c .vault .v)) (s .marked)
       ∙ sym (unseen-on key position (c .vault .w) (c .vault .v) (pred (floorOf (c .points))) cs (writable es c i) (s .rising) (s .consec) (s .base))
-      ∙ ap (unseenOn position (c .vault .v)) (sym (i .apart .records))
+      ∙ ap (unseenOn position (c .vault .v)) (sym (i .apart .card .records))
 
   kept-count : (es : List Event) (c : State) → Known es c → length (pointsOf (c .points)) ≡ c .points .count
   unfolding pointsOf
@@ -311,7 +311,7 @@ module _ (key : List ℕ) where
       let cs = i .durable .spots in
       let at-or-above = spotsFrom (p .position) cs in
       let e : laneOn l (placedFrom (p .position) (settled (after key es) .card .records)) ≡ cnt l at-or-above =
-      ap (λ (x : List Placed). laneOn l (placedFrom (p .position) x)) (i .apart .records) ∙ ap (laneOn l) (placed-from key (p .position) cs)
+      ap (λ (x : List Placed). laneOn l (placedFrom (p .position) x)) (i .apart .card .records) ∙ ap (laneOn l) (placed-from key (p .position) cs)
       ∙ lane-on key l at-or-above (λ y k. writable es c i y (mem-from (p .position) cs y k .0)) in
       let x = i .service .common .pointed p m .exact l in
       omega arith

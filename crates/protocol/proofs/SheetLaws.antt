@@ -10,7 +10,7 @@ use mathlib.Core.Logic.{_⊎_, inl, inr}
 use mathlib.Core.Option.{some}
 use native.Mathlib.Omega.{arith}
 use lib.Dec.{leb, ltb}
-use lib.ListN.{length, getD, length-map, List·getD-eq-default}
+use lib.ListN.{length, take, replicate, getD, length-map, length-take, length-append, List·getD-eq-default}
 use borrow.Author.Tests.{ltb-true, ltb-false, leb-true, le-ltb}
 use Rattle.octets.specs.Lists.{at}
 use Rattle.octets.specs.Little.{little, littleBytes}
@@ -26,7 +26,8 @@ use Rattle.table.proofs.EnteredLaws.{empty-canonical}
 use Rattle.table.specs.Order.{lex, later, latest}
 use Rattle.sealed.specs.Aead.{aesGcm}
 use Rattle.sealed.specs.Checkpoint.{fileLen, legalFile, openFile}
-use Rattle.sealed.specs.Record.{Opened, recordBytes, openRecord}
+use Rattle.sealed.specs.Record.{Opened, recordBytes, lenOf, legalHead, wholeLen, openRecord}
+use Rattle.sealed.specs.Log.{recordAt, tornAt}
 use Rattle.sealed.proofs.NonceLaws.{nonce-m3}
 use Rattle.sealed.proofs.RecordTrip.{length-one, length-most, record-opens}
 use Rattle.sealed.specs.Frame.{frameLen}
@@ -37,15 +38,15 @@ use Rattle.protocol.specs.Load.{loaded, load}
 use Rattle.protocol.specs.Accept.{tooLow, listedMore, holding, accepted, accept, holds, heldRecord, seal}
 use Rattle.protocol.specs.Commit.{committed, commitOpened, commit, outOfTurn}
 use Rattle.protocol.specs.Point.{point, pointed, pointsMore, journalOf, marksOf, marksTo, marksFrom, laneCount, unseenBelow, countsAt, pointAt}
-use Rattle.protocol.specs.Replay.{Read, passedOver, orStop, behind, stepOpened, steps, missingFrom, orMissing, ended, replay}
+use Rattle.protocol.specs.Replay.{Reading, Read, stopped, reading, passedOver, orStop, behind, stepOpened, steps, missingFrom, orMissing, ended, replay}
 use Rattle.protocol.specs.Recover.{logMax, spent, recovered, recoverRead, otherVersion, readFile, readFrom, recoverFirst, inService, recoverPhase, recover}
-use Rattle.protocol.specs.Sheet.{gives, Holds, number, display, someWrites, transaction, read, counted, vaultOf, acceptAt, commitSealed, visibleAt, logOf, fromLog, fromVersion, versioned, served, sealedOf, two, recordMax, sheet}
+use Rattle.protocol.specs.Sheet.{gives, Holds, number, display, valued, displays, fromTorn, begun, headed, someWrites, transaction, read, counted, vaultOf, acceptAt, commitSealed, visibleAt, logOf, fromLog, fromVersion, versioned, served, sealedOf, two, recordMax, sheet}
 use Rattle.protocol.specs.declared.Vault.{Vault}
 use Rattle.protocol.specs.declared.State.{State}
 use Rattle.protocol.specs.declared.Due.the-variants as D
 use Rattle.protocol.specs.declared.Store.the-variants as S
 use Rattle.protocol.proofs.Basis.{Writable, file-opens}
-use Rattle.protocol.proofs.LaidLaws.{laidOut, goOn, follow, AllWritable, startAt, replay-laid, laid-length}
+use Rattle.protocol.proofs.LaidLaws.{laidOut, goOn, follow, AllWritable, startAt, Comes, comes-torn, comes-left, comes-closed, replay-tail, replay-laid, laid-length}
 
 -- case n of the sheet gives what is expected
 abbrev Marked : List ℕ → ℕ → Type 0
@@ -163,6 +164,80 @@ module _ (key : List ℕ) where
     by-log (λ a. display a ∷ []) 5 3 5 [] _ long refl refl (omega arith) refl,
   )
 
+-- ---- CR 4
+
+module _ (key : List ℕ) where
+  -- what the numbers of a log and a tail come to
+  abbrev comeTo : Vault → List ℕ → (Reading → Read) → Read
+  comeTo x ns f = ended x (goOn (follow x (startAt x emptyTable) (map numbered ns)) f)
+
+  from-torn : (r v w : ℕ) (ns tail : List ℕ) (f : Reading → Read) → length key ≡ 16 → vaultOk (vaultOf r v w) ≡ true → allFit ns ≡ true → length ns ≤ 4 → length tail ≤ recordMax → Comes key (vaultOf r v w) tail f
+      → fromTorn key r v w ns tail ≡ recoverRead (loaded (vaultOf r v w) key) (comeTo (vaultOf r v w) ns f)
+  unfolding fromTorn
+  from-torn r v w ns tail f long h fit few short c =
+      let rs = map numbered ns in
+      let x = vaultOf r v w in
+      let all = all-writable ns fit in
+      let l = laid-length key rs all in
+      let m = length-map ns numbered in
+      let n = length-append (laidOut key rs) tail in
+      ap₂ (λ (d : State) (log : List ℕ). recover d [] (log ++ tail) fileLen) (loads key x long h) (log-laid key ns)
+      ∙ recovers key r v w (laidOut key rs ++ tail) h (omega arith)
+      ∙ ap (recoverRead (loaded x key)) (replay-tail key x emptyTable rs tail f all c)
+
+  by-torn : (view : Answered → List ℕ) (r v w : ℕ) (ns tail : List ℕ) (f : Reading → Read) (expected : List ℕ) → length key ≡ 16 → vaultOk (vaultOf r v w) ≡ true → allFit ns ≡ true → length ns ≤ 4 → length tail ≤ recordMax
+      → Comes key (vaultOf r v w) tail f → view (recoverRead (loaded (vaultOf r v w) key) (comeTo (vaultOf r v w) ns f)) ≡ expected → view (fromTorn key r v w ns tail) ≡ expected
+  by-torn view r v w ns tail f expected long h fit few short c e = ap view (from-torn r v w ns tail f long h fit few short c) ∙ e
+
+  -- 55 bytes of a record of 56
+  begun-comes : (x : Vault) (n : ℕ) → fits n ≡ true → Comes key x (begun key 55 n) reading
+  begun-comes x n h = comes-torn key x (numbered n) 55 (writable n h) (let l = length-one key 0 0 n (transaction n 1) (long-one n) in omega arith)
+
+  begun-short : (n : ℕ) → length (begun key 55 n) ≤ recordMax
+  begun-short n = let l = length-take 55 (recordBytes (aesGcm key) 0 0 n (transaction n 1)) in omega arith
+
+  ones-closed : (x : Vault) → Comes key x (replicate 20 0xff) (λ g. stopped 9 (g .offset ∷ []))
+  unfolding tornAt recordAt legalHead
+  ones-closed x = comes-closed key x (replicate 20 0xff) (omega arith) refl refl
+
+  ones-left : (x : Vault) → Comes key x (replicate 19 0xff) reading
+  unfolding tornAt
+  ones-left x = comes-left key x (replicate 19 0xff) refl
+
+  -- a head alone, and what would be one but for one of its numbers
+  head-left : (x : Vault) → Comes key x (headed key 1 0 16) reading
+  unfolding tornAt legalHead lenOf wholeLen legalLen littleBytes little padded
+  head-left x = comes-left key x (headed key 1 0 16) refl
+
+  no-head : (x : Vault) (kind lane n : ℕ) → legalHead (headed key kind lane n) ≡ false → Comes key x (headed key kind lane n) (λ g. stopped 9 (g .offset ∷ []))
+  unfolding tornAt recordAt littleBytes
+  no-head x kind lane n h = comes-closed key x (headed key kind lane n) (omega arith) (rw h) (rw h)
+
+  no-heads : (legalHead (headed key 2 0 16) ≡ false) × (legalHead (headed key 1 8 16) ≡ false) × (legalHead (headed key 1 0 17) ≡ false)
+  unfolding legalHead lenOf legalLen littleBytes little padded
+  no-heads = (refl, refl, refl)
+
+  torn-cases : length key ≡ 16 → Marked key 13 × Marked key 14 × Marked key 15 × Marked key 16
+  unfolding sheet read number valued vaultOf vaultOk laneOk allFit legal legalLen writeCount transaction someWrites littleBytes allBelow legalWrite writeAt writeIn lowest little padded recoverRead ended follow goOn stepOpened passedOver orStop behind missingFrom orMissing loaded recovered entered putTo put entryAt entryOf emptyTable latest stampOf signedOf
+  torn-cases long = (
+    by-torn displays 3 5 5 (4 ∷ []) (begun key 55 5) reading _ long refl refl (omega arith) (begun-short 5) (begun-comes (vaultOf 3 5 5) 5 refl) refl,
+    by-torn read 3 5 6 (4 ∷ 5 ∷ []) (begun key 55 6) reading _ long refl refl (omega arith) (begun-short 6) (begun-comes (vaultOf 3 5 6) 6 refl) refl,
+    by-torn displays 3 5 5 (4 ∷ 5 ∷ []) (replicate 20 0xff) (λ g. stopped 9 (g .offset ∷ [])) _ long refl refl (omega arith) (omega arith) (ones-closed (vaultOf 3 5 5)) refl,
+    by-torn read 3 5 5 (4 ∷ 5 ∷ []) (replicate 19 0xff) reading _ long refl refl (omega arith) (omega arith) (ones-left (vaultOf 3 5 5)) refl,
+  )
+
+  no-head-9 : length key ≡ 16 → (kind lane n : ℕ) → legalHead (headed key kind lane n) ≡ false → displays (fromTorn key 3 5 6 (4 ∷ 5 ∷ []) (headed key kind lane n)) ≡ 9 ∷ 112 ∷ []
+  unfolding sheet read number valued vaultOf vaultOk laneOk allFit legal legalLen writeCount transaction someWrites littleBytes allBelow legalWrite writeAt writeIn lowest little padded recoverRead ended follow goOn stepOpened passedOver orStop behind missingFrom orMissing loaded recovered entered putTo put entryAt entryOf emptyTable latest stampOf signedOf
+  no-head-9 long kind lane n h =
+      by-torn displays 3 5 6 (4 ∷ 5 ∷ []) (headed key kind lane n) (λ g. stopped 9 (g .offset ∷ [])) (9 ∷ 112 ∷ []) long refl refl (omega arith) (omega arith) (no-head (vaultOf 3 5 6) kind lane n h) refl
+
+  head-cases : length key ≡ 16 → Marked key 17 × Marked key 18
+  unfolding sheet read number valued vaultOf vaultOk laneOk allFit legal legalLen writeCount transaction someWrites littleBytes allBelow legalWrite writeAt writeIn lowest little padded recoverRead ended follow goOn stepOpened passedOver orStop behind missingFrom orMissing loaded recovered entered putTo put entryAt entryOf emptyTable latest stampOf signedOf
+  head-cases long = (
+    by-torn read 3 5 6 (4 ∷ 5 ∷ []) (headed key 1 0 16) reading _ long refl refl (omega arith) (omega arith) (head-left (vaultOf 3 5 6)) refl,
+    ap₂ (λ (a b : List ℕ). a ++ b) (no-head-9 long 2 0 16 (no-heads .0)) (ap₂ (λ (a b : List ℕ). a ++ b) (no-head-9 long 1 8 16 (no-heads .1)) (no-head-9 long 1 0 17 (no-heads .2))),
+  )
+
 -- ---- M10
 
 m10 : (key : List ℕ) → Marked key 10
@@ -239,4 +314,6 @@ pub sheet-holds : (key : List ℕ) → length key ≡ 16 → Holds (sheet key)
 unfolding Holds sheet
 sheet-holds key long =
     let l = m4-m9 key long in
-    (m1 key, (m2 key, (nonce-m3, (l .0, (l .1, (l .2, (l .3, (l .4, (l .5, (m10 key, (m11 key, (m12 key long, tt))))))))))))
+    let t = torn-cases key long in
+    let u = head-cases key long in
+    (m1 key, (m2 key, (nonce-m3, (l .0, (l .1, (l .2, (l .3, (l .4, (l .5, (m10 key, (m11 key, (m12 key long, (t .0, (t .1, (t .2, (t .3, (u .0, (u .1, tt))))))))))))))))))

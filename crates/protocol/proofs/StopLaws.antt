@@ -11,7 +11,7 @@ use Rattle.table.specs.declared.Table.{Table}
 use Rattle.sealed.specs.Aead.{Aead}
 use Rattle.sealed.specs.Record.{Opened}
 use Rattle.sealed.specs.Checkpoint.{OpenedFile}
-use Rattle.protocol.specs.Replay.{Reading, Read, stopped, reading, passedOver, orStop, stepOpened, step, stepOn, steps, orMissing, ended, replay}
+use Rattle.protocol.specs.Replay.{Reading, Read, stopped, reading, passedOver, orStop, stepOpened, step, goesOn, stepOn, steps, orMissing, ended, replay}
 use Rattle.protocol.specs.Recover.{readFile, readFrom}
 use Rattle.protocol.specs.declared.Vault.{Vault}
 
@@ -48,7 +48,7 @@ module _ (a : Aead) (x : Vault) where
   on-read : (log : List ℕ) (r : Read) → ReadNumbered r → ReadNumbered (stepOn a x log r)
   unfolding stepOn step
   on-read log (stopped n vs) h = h
-  on-read log (reading g) h = either (ltb (g .offset) (length log)) _ _ (opened-read g _) h
+  on-read log (reading g) h = either (goesOn log (g .offset)) _ _ (opened-read g _) h
 
   steps-read : (log : List ℕ) (n : ℕ) (r : Read) → ReadNumbered r → ReadNumbered (steps n a x log r)
   unfolding steps

@@ -2,11 +2,12 @@
 -- visible, or the card changes.
 -- Assumes nothing.
 use Prim.Native.Nat.{ℕ, suc, _+_, _-_, _≤_, _<_}
-use mathlib.Core.Path.{_≡_, refl, sym, ap, _∙_}
+use mathlib.Core.Path.{_≡_, refl, sym, ap, subst, _∙_}
+use mathlib.Core.Option.{Option, none, some}
 use mathlib.Core.Logic.{_⊎_, inl, inr}
 use mathlib.Core.List.{List, [], _∷_, _++_, List·Memᴰ, List·Memᴰ·head, List·Memᴰ·tail, List·Memᴰ·not-nil, List·Memᴰ·cases-cons, List·Memᴰ·append-cases, List·Memᴰ·eq-of-singleton, Memᴰ·append-left, Memᴰ·append-right}
 use native.Mathlib.Omega.{arith}
-use native.Mathlib.Decide.{ℕ-discrete}
+use native.Mathlib.Decide.{ℕ-discrete, decLe}
 use lib.ListN.{set, length, length-set}
 use Rattle.octets.specs.Lists.{at}
 use Rattle.table.specs.Table.{lanes}
@@ -18,7 +19,7 @@ use Rattle.protocol.proofs.VaultLaws.{LaneFine}
 use Rattle.protocol.proofs.Lanes.{Put, same, other, put}
 use Rattle.protocol.proofs.Latest.{In, Full, Upto, full-upto, upto-add}
 use Rattle.protocol.proofs.Card.{Spot}
-use Rattle.protocol.proofs.Invariant.{FileIn, Lanes, SealedOnce, Booked, Filed, Carded, CardFiled, HasNext, Stale, Caught}
+use Rattle.protocol.proofs.Invariant.{FileIn, Lanes, SealedOnce, Booked, Filed, Passed, Carded, CardFiled, HasNext, Stale, Caught}
 
 -- lanes
 pub lanes-w : {w v r : List ℕ} (l : ℕ) → l < lanes → at w l < counterMax → ((k : ℕ) → at r k ≤ at v k) → Lanes w v r → Lanes (set w l (suc (at w l))) v r
@@ -166,17 +167,35 @@ pub files-book : {s : ℕ} {r : List ℕ} {b : List Opened} {fs : List OpenedFil
 files-book y p st h d = record { next = d .next; full = λ f m e. absurd (let z = st f m in omega arith); held = λ f m e. upto-add y h (d .held f m e); fresh = λ e. absurd (omega arith); fine = d .fine }
 
 -- the card
-pub card-sealed : {v r : List ℕ} {s : List Opened} {c : List Spot} (y : Opened) → Carded v r s c → Carded v r (y ∷ s) c
-card-sealed y d = record { top = d .top; consec = d .consec; reach = d .reach; known = λ p m. List·Memᴰ·tail (d .known p m); rising = d .rising; few = d .few }
+pub card-sealed : {v r : List ℕ} {s : List Opened} {c : List Spot} {o : Option Opened} (y : Opened) → Carded v r s c o → Carded v r (y ∷ s) c o
+card-sealed y d = record { top = d .top; consec = d .consec; reach = d .reach; known = λ p m. List·Memᴰ·tail (d .known p m); rising = d .rising; few = d .few; begun-known = λ b e. List·Memᴰ·tail (d .begun-known b e); begun-passed = d .begun-passed }
 
-pub card-r : {v r r′ : List ℕ} {s : List Opened} {c : List Spot} → Up r r′ → Carded v r s c → Carded v r′ s c
-card-r u d = record { top = d .top; consec = d .consec; reach = λ l h. let z = u l in let a = d .reach l (omega arith) in (a .0, let b = a .1 in omega arith); known = d .known; rising = d .rising; few = d .few }
+-- a cut leaves the record that was put out last
+pub card-begun : {v r : List ℕ} {s : List Opened} {c : List Spot} {o : Option Opened} (y : Opened) → at v (y .lane) < y .number → Carded v r s c o → Carded v r (y ∷ s) c (some y)
+card-begun {v} {r} {s} y h d = record { top = d .top; consec = d .consec; reach = d .reach; known = λ p m. List·Memᴰ·tail (d .known p m); rising = d .rising; few = d .few; begun-known = λ b e. List·Memᴰ·head (one b e); begun-passed = λ b e. subst (Passed v r) (sym (one b e)) (inr h) }
+  where
+    one : (b : Opened) → _≡_ {A = Option Opened} (some y) (some b) → b ≡ y
+    one b e = cc
 
-pub card-free : {v v′ r : List ℕ} {s : List Opened} {c : List Spot} → ((l : ℕ) → at v′ l ≤ at r l) → Carded v r s c → Carded v′ r s c
-card-free f d = record { top = d .top; consec = d .consec; reach = λ l h. absurd (let z = f l in omega arith); known = d .known; rising = d .rising; few = d .few }
+pub card-r : {v r r′ : List ℕ} {s : List Opened} {c : List Spot} {o : Option Opened} → Up r r′ → Carded v r s c o → Carded v r′ s c o
+card-r {v} {r} {r′} u d = record { top = d .top; consec = d .consec; reach = λ l h. let z = u l in let a = d .reach l (omega arith) in (a .0, let b = a .1 in omega arith); known = d .known; rising = d .rising; few = d .few; begun-known = d .begun-known; begun-passed = λ b e. go b (d .begun-passed b e) (u (b .lane)) }
+  where
+    go : (b : Opened) → Passed v r b → at r (b .lane) ≤ at r′ (b .lane) → Passed v r′ b
+    go b (inl p) z = inl (omega arith)
+    go b (inr p) z = inr p
 
-pub card-empty : {v r : List ℕ} {s : List Opened} → ((l : ℕ) → at v l ≤ at r l) → Carded v r s []
-card-empty f = record { top = λ l. 0; consec = tt; reach = λ l h. absurd (let z = f l in omega arith); known = λ p m. absurd (List·Memᴰ·not-nil m); rising = tt; few = omega arith }
+pub card-free : {v v′ r : List ℕ} {s : List Opened} {c : List Spot} {o : Option Opened} → ((l : ℕ) → at v′ l ≤ at r l) → Carded v r s c o → Carded v′ r s c o
+card-free {v} {v′} {r} f d = record { top = d .top; consec = d .consec; reach = λ l h. absurd (let z = f l in omega arith); known = d .known; rising = d .rising; few = d .few; begun-known = d .begun-known; begun-passed = λ b e. go b (f (b .lane)) (decLe (b .number) (at r (b .lane))) }
+  where
+    go : (b : Opened) → at v′ (b .lane) ≤ at r (b .lane) → Dec (b .number ≤ at r (b .lane)) → Passed v′ r b
+    go b z (yes p) = inl p
+    go b z (no p) = inr (omega arith)
+
+pub no-begun : {A : Type 0} (b : Opened) → _≡_ {A = Option Opened} none (some b) → A
+no-begun b e = let z : _≡_ {A = ℕ} 0 1 = cc in absurd (omega arith)
+
+pub card-empty : {v r : List ℕ} {s : List Opened} → ((l : ℕ) → at v l ≤ at r l) → Carded v r s [] none
+card-empty f = record { top = λ l. 0; consec = tt; reach = λ l h. absurd (let z = f l in omega arith); known = λ p m. absurd (List·Memᴰ·not-nil m); rising = tt; few = omega arith; begun-known = λ b e. no-begun b e; begun-passed = λ b e. no-begun b e }
 
 pub kept-add : {s : ℕ} {fs cs : List OpenedFile} (f : OpenedFile) → CardFiled s fs cs → CardFiled s (f ∷ fs) (cs ++ (f ∷ []))
 kept-add {s} {fs} {cs} f d = record { known = λ g m. go g (List·Memᴰ·append-cases cs m); have = λ h. let a = d .have h in (a .0, Memᴰ·append-left (f ∷ []) (a .1), a .2) }

@@ -30,7 +30,7 @@ use Rattle.sealed.proofs.FileLaws.{file-opens}
 use Rattle.sealed.proofs.LogTrip.{at-opens, records-at}
 use Rattle.protocol.specs.States.{valid, isNothing}
 use Rattle.protocol.specs.Said.{Answered}
-use Rattle.protocol.specs.Replay.{Reading, Read, stopped, reading, passedOver, behind, orStop, replay}
+use Rattle.protocol.specs.Replay.{Reading, Read, stopped, reading, passedOver, behind, goesOn, orStop, replay}
 use Rattle.protocol.specs.Recover.{otherVersion, readFile, readFrom, recovered, recoverRead, recoverFirst, recover}
 use Rattle.protocol.specs.Commit.{committed, commitOpened, commit}
 use Rattle.protocol.specs.History.{isTaken}
@@ -150,7 +150,7 @@ module _ (key : List ℕ) (x : Vault) (log : List ℕ) (t : Table) (m : ℕ) (ro
         latest = come (h .before) (bytesAt g) r o above upto (entered-holds (g .table) (r .text) (r .lane) (r .number) m (opens-legal (aesGcm key) (bytesAt g) r o .text) (omega arith)) (h .latest);
       }
 
-  ends : (n : ℕ) (g : Reading) → Came (suc n) g → length log ≤ g .offset → Came n g
+  ends : (n : ℕ) (g : Reading) → Came (suc n) g → goesOn log (g .offset) ≡ false → Came n g
   ends n g h p = record {
     before = h .before;
     all = h .all ∙ ap (λ (l : List (List ℕ)). h .before ++ l) (none-left log (g .offset) (suc n) p ∙ sym (none-left log (g .offset) n p));

@@ -12,7 +12,8 @@ use mathlib.Core.Logic.{_⊎_, inl, inr}
 use native.Mathlib.Omega.{arith}
 use borrow.Author.Tests.{ltb-true, le-ltb}
 use lib.Dec.{ltb, lit<}
-use lib.ListN.{length, getD, replicate, length-append}
+use lib.ListN.{length, getD, replicate, take, length-append}
+use lib.Seq.{take-nil}
 use Rattle.octets.specs.Lists.{at}
 use Rattle.octets.specs.Bytes.{padded}
 use Rattle.octets.specs.Little.{little}
@@ -29,7 +30,7 @@ use Rattle.sealed.specs.Record.{Opened, recordKind, openRecord}
 use Rattle.sealed.specs.Log.{recordsTo, recordsIn}
 use Rattle.sealed.specs.Checkpoint.{OpenedFile, fileKind, fileLen, fileBytes, openFile}
 use Rattle.sealed.proofs.RecordTrip.{length-record}
-use Rattle.sealed.proofs.LogTrip.{version-is}
+use Rattle.sealed.proofs.LogTrip.{version-is, records-nil}
 use Rattle.protocol.specs.Vaults.{newVault, laneOk, vaultOk}
 use Rattle.protocol.specs.States.{noJournal, noPoint, noPoints, noHeld, valid, ready}
 use Rattle.protocol.specs.Said.{Said, refused, taken, Answered, refusing, taking, refuse}
@@ -42,9 +43,9 @@ use Rattle.protocol.specs.Checkpoint.{coveredPoint, coveredPoints, check
 use Rattle.protocol.specs.Truncate.{pointsOf, findPoint, pointsAbove, droppedTo, afterTruncateR, truncateLane, uncovered, truncateFirst, truncateNext, truncateDelete, truncateStep, truncateDue, truncate}
 use Rattle.protocol.specs.Replay.{stopped, reading, passedOver, orStop, behind, stepOpened, steps, missingFrom, orMissing, ended, replay}
 use Rattle.protocol.specs.Recover.{logMax, spent, recovered, recoverRead, readFile, readFrom, recoverFirst, afterVersion, allVisible, afterR, afterV, recoverNumber, inService, recoverStep, recoverDue, recoverPhase, recover, otherVersion}
-use Rattle.protocol.specs.History.{Call, Event, call, cut, callLoad, callRecover, callAccept, callSeal, callCommit, callPoint, callCheckpoint, callTruncate, Placed, placedFrom, cardAfter, insertPlaced, inOrder, endToEnd, faithfulLog, FaithfulFile, vaultAfter, Sealing, Lasting, World, nothingPending, newLasting, newWorld, bookAfter, done, settled, sealedBy, withSealings, answerOf, firstAnswer, answer, addsOf, afterSaid, afterAnswer, next, run, PutOut, Honest, Premises}
+use Rattle.protocol.specs.History.{Call, Event, call, cut, callLoad, callRecover, callAccept, callSeal, callCommit, callPoint, callCheckpoint, callTruncate, Placed, placedFrom, cardAfter, insertPlaced, inOrder, endToEnd, faithfulLog, FaithfulFile, vaultAfter, Sealing, Lasting, World, nothingPending, newLasting, newWorld, bookAfter, done, settled, sealedBy, withSealings, cardCut, broken, answerOf, firstAnswer, answer, addsOf, afterSaid, afterAnswer, next, run, PutOut, Honest, Premises}
 use Rattle.protocol.specs.Sheet.{number}
-use Rattle.protocol.specs.Worked.{text, shownEntry, oneReading, onlyRecord, recordOf, olderFile, newerFile, doubledLog, lastVault, cold, recovering, transacting, events, pointing, cutting, cutVault, thirdFile, fromThird, wholeLife, wholeVault, wholeState, shownAt, shownBy, wholeShown}
+use Rattle.protocol.specs.Worked.{text, shownEntry, oneReading, onlyRecord, recordOf, olderFile, newerFile, doubledLog, lastVault, cold, recovering, transacting, events, tornEvents, pointing, cutting, cutVault, thirdFile, fromThird, wholeLife, wholeVault, wholeState, shownAt, shownBy, wholeShown}
 use Rattle.protocol.specs.declared.Vault.{Vault}
 use Rattle.protocol.specs.declared.Phase.the-variants as F
 use Rattle.protocol.specs.declared.Due.{Due}
@@ -60,7 +61,6 @@ use Rattle.protocol.specs.declared.Store.{Store}
 use Rattle.protocol.specs.declared.Store.the-variants as S
 use Rattle.protocol.proofs.Basis.{Writable, bytesOf, opens, file-opens, empty-file}
 use Rattle.protocol.proofs.LaidLaws.{AllWritable, laidOut, goOn, follow, replay-laid, records-laid}
-use Rattle.protocol.proofs.Apart.{mem-map}
 
 -- ---- the transaction
 
@@ -209,7 +209,7 @@ module _ (key : List ℕ) where
 
   -- what lasts: the numbers, the records and the files on the card, the book, what was sealed
   abbrev lasts : Vault → List Placed → List (List ℕ) → List Opened → List Sealing → Lasting
-  lasts x records files book sealings = record { vault = x; card = record { records = records; files = files }; book = book; sealings = sealings }
+  lasts x records files book sealings = record { vault = x; card = record { records = records; files = files; beginning = [] }; book = book; sealings = sealings }
 
   -- with a store pending that adds nothing to the book
   abbrev pends : Lasting → Store → List ℕ → State → World
@@ -307,6 +307,37 @@ module _ (key : List ℕ) where
   unfolding events final cold
   go-all long = go-visible long then go-cut then loads lastVault _ refl last-good long
 
+  -- ---- the list that is cut while its record is written
+
+  -- the card shows a beginning of the record
+  tornOff : World
+  tornOff = record {
+    lasting = record {
+      vault = numbers 1 0 0 0 2 2;
+      card = record { records = []; files = olderFile key ∷ newerFile key ∷ []; beginning = recordOf key };
+      book = [];
+      sealings = only ∷ filed 2 emptyTable ∷ filed 1 emptyTable ∷ [];
+    };
+    pending = nothingPending;
+    state = none;
+  }
+
+  go-torn-off : Goes written (cut false ∷ []) [] tornOff
+  unfolding run shownBy Premises Honest written tornOff next broken cardCut
+  go-torn-off = record { keeps = (tt, tt); shows = refl; ends = refl }
+
+  go-torn : length key ≡ 16 → Goes newWorld (tornEvents key) (replicate 18 0) tornOff
+  unfolding tornEvents newWorld newLasting newOne
+  go-torn long = loads newVault newLasting refl new-good long then go-recovering then go-accept then go-seal then go-torn-off
+
+  -- it keeps to the premises, and a card that kept faith then shows any beginning of the record
+  pub torn-listed : length key ≡ 16 → Premises key newWorld (tornEvents key)
+  torn-listed long = go-torn long .keeps
+
+  pub torn-log : length key ≡ 16 → (k : ℕ) → faithfulLog (settled (run key newWorld (tornEvents key)) .card) k ≡ take k (recordOf key)
+  unfolding tornOff done cardAfter faithfulLog inOrder endToEnd
+  torn-log long k = ap (λ (w : World). faithfulLog (settled w .card) k) (go-torn long .ends)
+
   -- ---- the list with every call
 
   -- the point above the record: one number of lane 0 lies below it
@@ -388,7 +419,7 @@ module _ (key : List ℕ) where
 
   -- a cut before its store is done breaks it
   go-broken : Goes accepting (cut false ∷ []) [] (afterCut none)
-  unfolding run shownBy Premises Honest accepting afterCut next
+  unfolding run shownBy Premises Honest accepting afterCut next broken cardCut
   go-broken = record { keeps = (tt, tt); shows = refl; ends = refl }
 
   -- with all five files stored, the third one is among what was put out
@@ -446,9 +477,9 @@ module _ (key : List ℕ) where
   whole-book long = ap (λ (w : World). settled w .book) (go-whole long .ends)
 
   -- and the card's log is empty
-  pub whole-log : length key ≡ 16 → faithfulLog (settled (run key newWorld (wholeLife key)) .card) ≡ []
+  pub whole-log : length key ≡ 16 → (k : ℕ) → faithfulLog (settled (run key newWorld (wholeLife key)) .card) k ≡ []
   unfolding wholeWorld done cardAfter faithfulLog inOrder endToEnd
-  whole-log long = ap (λ (w : World). faithfulLog (settled w .card)) (go-whole long .ends)
+  whole-log long k = ap (λ (w : World). faithfulLog (settled w .card) k) (go-whole long .ends) ∙ take-nil k
 
   -- ---- the list that leaves a cold collector
 
@@ -471,9 +502,13 @@ module _ (key : List ℕ) where
   cold-is = (refl, refl)
 
   -- the honest card is the one that kept faith: it has the record, and a file of version S
-  pub honest-log : length key ≡ 16 → faithfulLog (settled (run key newWorld (events key)) .card) ≡ recordOf key
+  pub honest-log : length key ≡ 16 → (k : ℕ) → faithfulLog (settled (run key newWorld (events key)) .card) k ≡ recordOf key
   unfolding final done cardAfter faithfulLog inOrder insertPlaced endToEnd
-  honest-log long = ap (λ (w : World). faithfulLog (settled w .card)) (go-all long .ends) ∙ append-nil (recordOf key)
+  honest-log long k =
+      ap (λ (w : World). faithfulLog (settled w .card) k) (go-all long .ends)
+      ∙ ap (λ (s : List ℕ). (recordOf key ++ []) ++ s) (take-nil k)
+      ∙ append-nil (recordOf key ++ [])
+      ∙ append-nil (recordOf key)
 
   pub honest-file : length key ≡ 16 → FaithfulFile (settled (run key newWorld (events key)) .vault .s) (settled (run key newWorld (events key)) .card) (newerFile key)
   unfolding final lastVault done cardAfter vaultAfter FaithfulFile
@@ -501,9 +536,8 @@ module _ (key : List ℕ) where
   unfolding recordsIn onlyRecord
   all-only rs h log e b m =
       let fine : AllWritable rs = λ r k. rw (h r k) only-writable in
-      let is : recordsIn log ≡ map (bytesOf key) rs = ap recordsIn (sym e) ∙ records-laid key rs (length (laidOut key rs)) fine (omega arith) in
-      let x = mem-map (bytesOf key) rs b (rw is at m) in
-      x .2 ∙ ap (bytesOf key) (h (x .0) (x .1))
+      let is : recordsIn log ≡ recordsTo (length log) (laidOut key rs ++ []) = ap (recordsTo (length log)) (sym e ∙ sym (append-nil (laidOut key rs))) in
+      records-laid key (λ (c : List ℕ). c ≡ recordOf key) [] (λ n c i. absurd (List·Memᴰ·not-nil (rw (records-nil n) at i))) rs fine (λ r i. ap (bytesOf key) (h r i)) (length log) b (rw is at m)
 
   only-one : (r : Opened) → List·Memᴰ r (onlyRecord ∷ []) → r ≡ onlyRecord
   only-one r m = List·Memᴰ·eq-of-singleton m

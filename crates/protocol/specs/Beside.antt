@@ -1,5 +1,5 @@
--- What is said beside demand 3, after any list that keeps to the premises: that a faithful log is short and the vault's numbers only rise, which
--- files may go, the stores of the longer operations, and 01's sentences on a collector in service. The proofs are in proofs/ServiceLaws.antt,
+-- What is said beside demand 3, after any list that keeps to the premises: that a faithful log is short, where a card may show the beginning of a
+-- record, that the vault's numbers only rise, which files may go, the stores of the longer operations, and 01's sentences on a collector in service. The proofs are in proofs/ServiceLaws.antt,
 -- RiseLaws, ForgetLaws and Theorem.
 -- Assumes nothing.
 use Prim.Native.Nat.{ℕ, suc, _+_, _*_, _≤_, _<_}
@@ -7,14 +7,16 @@ use mathlib.Core.Path.{_≡_}
 use mathlib.Core.Bool.{Bool, true, false, cond, not, _&&_, _||_}
 use mathlib.Core.List.{List, [], _∷_, _++_, List·Memᴰ}
 use mathlib.Core.Option.{Option, some, none}
+use mathlib.Core.Logic.{_⊎_}
 use lib.Dec.{leb, ltb, eqb}
-use lib.ListN.{length}
+use lib.ListN.{length, take}
 use Rattle.octets.specs.Lists.{at}
 use Rattle.transaction.specs.Transaction.{maxText, legal}
 use Rattle.table.specs.Table.{lanes, entered}
 use Rattle.sealed.specs.Aead.{aesGcm}
 use Rattle.sealed.specs.Frame.{frameLen}
 use Rattle.sealed.specs.Record.{Opened, laneOf, numberOf, recordBytes, openRecord}
+use Rattle.sealed.specs.Log.{tornAt}
 use Rattle.sealed.specs.Checkpoint.{fileLen, versionOf, fileBytes}
 use Rattle.protocol.specs.Vaults.{counterMax}
 use Rattle.protocol.specs.States.{listed, pointsMax}
@@ -27,7 +29,7 @@ use Rattle.protocol.specs.Truncate.{pointsOf, findPoint, truncate}
 use Rattle.protocol.specs.Recover.{recover}
 use Rattle.protocol.specs.Load.{keyLen}
 use Rattle.protocol.specs.Tally.{recoveryStores, truncateStores, checkpointStores, answers, putBy, Names, Serves, Dropped, Covered, Truncates}
-use Rattle.protocol.specs.History.{Call, Event, call, Placed, placedFrom, Card, World, newWorld, nothingPending, settled, next, run, isTaken, Honest, Premises, faithfulLog, FaithfulFile}
+use Rattle.protocol.specs.History.{Call, Event, call, cut, Placed, placedFrom, Card, World, newWorld, nothingPending, settled, next, run, isTaken, Honest, Premises, faithfulLog, FaithfulFile}
 use Rattle.protocol.specs.Since.{Since, nothingSince, sinceRun, anyFrom, standing}
 use Rattle.protocol.specs.Claim.{after, Listed, Claim}
 use Rattle.protocol.specs.declared.Vault.{Vault}
@@ -56,9 +58,9 @@ NotLower x S.File = Unit {0}
 NotLower x (S.Delete p) = Unit {0}
 NotLower x S.Empty = Unit {0}
 
--- 128 records from each of 8 points on and 128 before the first, each of the longest
+-- 128 records from each of 8 points on and 128 before the first, and one that a cut left, each of the longest
 abbrev pub longestLog : ℕ
-longestLog = (pointsMax + 1) * listed * (maxText + frameLen)
+longestLog = suc ((pointsMax + 1) * listed) * (maxText + frameLen)
 
 -- a record on the card below a position has a number above V of its lane
 unfoldable pub unseenOn : ℕ → List ℕ → List Placed → Bool
@@ -80,7 +82,7 @@ pub record Lacks (s : ℕ) (all left : List (List ℕ)) : Type 0 where
 
 -- the card with the files that are left
 abbrev pub cardLeft : List (List ℕ) → Card → Card
-cardLeft left d = record { records = d .records; files = left }
+cardLeft left d = record { records = d .records; files = left; beginning = d .beginning }
 
 -- a file is faithful of a card exactly where it is of the card with the files that are left
 pub record SameFaith (s : ℕ) (d : Card) (left : List (List ℕ)) (file : List ℕ) : Type 0 where
@@ -118,9 +120,40 @@ forgotten left w = record {
 module _ (key : List ℕ) where
   -- ---- the vault and the card
 
-  -- a faithful log is at most as long as the longest: 202,752 of 262,144 bytes
+  -- a faithful log is at most as long as the longest: 202,928 of 262,144 bytes
   abbrev pub LogIsShort : Type 0
-  LogIsShort = (es : List Event) → Listed key es → length (faithfulLog (settled (after key es) .card)) ≤ longestLog
+  LogIsShort = (es : List Event) → Listed key es → (k : ℕ) → length (faithfulLog (settled (after key es) .card) k) ≤ longestLog
+
+  -- ---- the record that a cut left
+
+  -- 02, CR 4, of any world: "a cut may leave any beginning of the record being written, at the end of the log. A faithful card may now show that,
+  -- until an empty store is done, which drops it too." And no cut adds a file: "A torn checkpoint never counts as one of version S."
+  pub record Leaves (w : World) : Type 0 where
+    pub writing : (p : ℕ) → w .pending .store ≡ S.Record p → next key w (cut false) .lasting .card .beginning ≡ w .pending .bytes
+    pub else : ((p : ℕ) → w .pending .store ≡ S.Record p → ⊥) → next key w (cut false) .lasting .card .beginning ≡ w .lasting .card .beginning
+    pub until : (w .pending .store ≡ S.Empty → ⊥) → settled w .card .beginning ≡ w .lasting .card .beginning
+    pub emptied : w .pending .store ≡ S.Empty → settled w .card .beginning ≡ []
+    pub no-file : next key w (cut false) .lasting .card .files ≡ w .lasting .card .files
+
+  -- in service there is no beginning, once the pending store is done
+  abbrev pub NoneBegunInService : Type 0
+  NoneBegunInService = (es : List Event) → Listed key es → (c : State) → after key es .state ≡ some c → c .phase ≡ F.Serving → settled (after key es) .card .beginning ≡ []
+
+  -- and no pending record store or delete store meets one
+  abbrev pub NoneMet : Type 0
+  NoneMet = (es : List Event) → Listed key es → (p : ℕ) → (after key es .pending .store ≡ S.Record p) ⊎ (after key es .pending .store ≡ S.Delete p) → after key es .lasting .card .beginning ≡ []
+
+  -- every proper beginning of what Seal put out is torn, behind whatever it stands: so no cut in its store leaves a log that is turned down for it
+  abbrev pub SealedBeginningsAreTorn : Type 0
+  SealedBeginningsAreTorn = (es : List Event) → Listed key es → (p : ℕ) → after key es .pending .store ≡ S.Record p → (front : List ℕ) (k : ℕ) → k < length (after key es .pending .bytes)
+      → tornAt (front ++ take k (after key es .pending .bytes)) (length front) ≡ true
+
+  -- and so is every proper beginning of what the card has begun
+  abbrev pub BeginningsAreTorn : Type 0
+  BeginningsAreTorn = (es : List Event) → Listed key es → (front : List ℕ) (k : ℕ) → k < length (settled (after key es) .card .beginning)
+      → tornAt (front ++ take k (settled (after key es) .card .beginning)) (length front) ≡ true
+
+  -- ---- numbers and files
 
   -- the vault's numbers only rise: no store that a call names lowers one
   abbrev pub NoStoreLowers : Type 0
@@ -224,6 +257,11 @@ module _ (key : List ℕ) where
 
   pub record Beside : Type 0 where
     pub log-is-short : LogIsShort
+    pub leaves : (w : World) → Leaves w
+    pub none-begun-in-service : NoneBegunInService
+    pub none-met : NoneMet
+    pub sealed-beginnings-are-torn : SealedBeginningsAreTorn
+    pub beginnings-are-torn : BeginningsAreTorn
     pub no-store-lowers : NoStoreLowers
     pub stored-s-never-falls : StoredSNeverFalls
     pub older-files-may-go : OlderFilesMayGo

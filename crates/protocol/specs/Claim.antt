@@ -4,7 +4,8 @@
 use Prim.Native.Nat.{ℕ, suc, _-_, _^_, _≤_, _<_}
 use mathlib.Core.Path.{_≡_}
 use mathlib.Core.Bool.{true}
-use mathlib.Core.List.{List, []}
+use mathlib.Core.Logic.{_⊎_}
+use mathlib.Core.List.{List, [], _++_}
 use mathlib.Core.Option.{some}
 use lib.ListN.{length, getD}
 use Rattle.transaction.specs.Transaction.{meters}
@@ -56,15 +57,15 @@ module _ (key : List ℕ) where
     -- the latest of all writes to a meter in the book is one entry
     pub latest-is-one : (m : ℕ) (a b : Entry) → LatestOf (settled w .book) m a → LatestOf (settled w .book) m b → a ≡ b
     -- "After any such list, recovery of a cold collector from a card that kept faith as 01 defines is accepted exactly when no counter is
-    -- spent".
-    pub faithful-card-is-taken : (c : State) → w .state ≡ some c → c .phase ≡ F.Cold → (file : List ℕ) (room : ℕ) → FaithfulFile (settled w .vault .s) (settled w .card) file
-        → TakenUnlessSpent (settled w .vault) (recover c file (faithfulLog (settled w .card)) room .said)
+    -- spent": whichever beginning it shows of a record that a cut left (02, CR 4), and so at every call anew.
+    pub faithful-card-is-taken : (c : State) → w .state ≡ some c → c .phase ≡ F.Cold → (file : List ℕ) (room k : ℕ) → FaithfulFile (settled w .vault .s) (settled w .card) file
+        → TakenUnlessSpent (settled w .vault) (recover c file (faithfulLog (settled w .card) k) room .said)
     -- Load takes the vault's numbers after any list, names no store, and hands back a cold collector: so there is always one
     pub load-is-taken : (load (settled w .vault) key .said ≡ taken S.Nothing 0) × (load (settled w .vault) key .state .phase ≡ F.Cold)
     -- the card that kept faith has a file of version S where S > 0
     pub card-has-a-file : (file : List ℕ) × FaithfulFile (settled w .vault .s) (settled w .card) file
     -- and what it hands over keeps to the premises: neither half of the claim is without the other
-    pub faithful-card-is-honest : (file : List ℕ) (room : ℕ) → FaithfulFile (settled w .vault .s) (settled w .card) file → Honest key w (call (callRecover file (faithfulLog (settled w .card)) room))
+    pub faithful-card-is-honest : (file : List ℕ) (room k : ℕ) → FaithfulFile (settled w .vault .s) (settled w .card) file → Honest key w (call (callRecover file (faithfulLog (settled w .card) k) room))
 
 -- demand 3, for every key of 16 bytes and every list that keeps to the premises
 abbrev pub Demand3 : Type 0

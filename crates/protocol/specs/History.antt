@@ -6,6 +6,7 @@ use mathlib.Core.Bool.{Bool, true, false, cond}
 use mathlib.Core.List.{List, [], _∷_, _++_, map, List·Memᴰ}
 use mathlib.Core.Option.{Option, some, none}
 use lib.Dec.{leb}
+use lib.ListN.{take}
 use Rattle.octets.specs.Lists.{at}
 use Rattle.sealed.specs.Aead.{aesGcm}
 use Rattle.sealed.specs.Record.{recordKind, Opened, openRecord}
@@ -49,10 +50,11 @@ pub record Placed : Type 0 where
   pub position : ℕ
   pub bytes : List ℕ
 
--- the records, in the order in which they were stored, and the checkpoint files
+-- the records, in the order in which they were stored, the checkpoint files, and the record of which a cut left a beginning (02, CR 4), or []
 pub record Card : Type 0 where
   pub records : List Placed
   pub files : List (List ℕ)
+  pub beginning : List ℕ
 
 -- the records at or above a position
 unfoldable pub placedFrom : ℕ → List Placed → List Placed
@@ -60,7 +62,8 @@ placedFrom p [] = []
 placedFrom p (x ∷ xs) = cond (leb p (x .position)) (x ∷ placedFrom p xs) (placedFrom p xs)
 
 -- "A record store adds the record at its position, a checkpoint store adds the file, a delete store drops all records below its position, an
--- empty store drops all records. Nothing else changes what it holds". The bytes are those that the call put out.
+-- empty store drops all records. Nothing else changes what it holds". The bytes are those that the call put out. A beginning is shown "until an
+-- empty store is done, which drops it too".
 unfoldable pub cardAfter : Store → List ℕ → Card → Card
 cardAfter S.Nothing bytes d = d
 cardAfter (S.W l k) bytes d = d
@@ -69,10 +72,25 @@ cardAfter (S.R l k) bytes d = d
 cardAfter (S.E k) bytes d = d
 cardAfter (S.S k) bytes d = d
 cardAfter (S.N k) bytes d = d
-cardAfter (S.Record p) bytes d = record { records = d .records ++ (record { position = p; bytes = bytes } ∷ []); files = d .files }
-cardAfter S.File bytes d = record { records = d .records; files = d .files ++ (bytes ∷ []) }
-cardAfter (S.Delete p) bytes d = record { records = placedFrom p (d .records); files = d .files }
-cardAfter S.Empty bytes d = record { records = []; files = d .files }
+cardAfter (S.Record p) bytes d = record { records = d .records ++ (record { position = p; bytes = bytes } ∷ []); files = d .files; beginning = d .beginning }
+cardAfter S.File bytes d = record { records = d .records; files = d .files ++ (bytes ∷ []); beginning = d .beginning }
+cardAfter (S.Delete p) bytes d = record { records = placedFrom p (d .records); files = d .files; beginning = d .beginning }
+cardAfter S.Empty bytes d = record { records = []; files = d .files; beginning = [] }
+
+-- a cut before the store is done: "a cut may leave any beginning of the record being written, at the end of the log". A file is never begun on
+-- the card: "A torn checkpoint never counts as one of version S".
+unfoldable pub cardCut : Store → List ℕ → Card → Card
+cardCut S.Nothing bytes d = d
+cardCut (S.W l k) bytes d = d
+cardCut (S.V l k) bytes d = d
+cardCut (S.R l k) bytes d = d
+cardCut (S.E k) bytes d = d
+cardCut (S.S k) bytes d = d
+cardCut (S.N k) bytes d = d
+cardCut (S.Record p) bytes d = record { records = d .records; files = d .files; beginning = bytes }
+cardCut S.File bytes d = d
+cardCut (S.Delete p) bytes d = d
+cardCut S.Empty bytes d = d
 
 -- "its records end to end in order of position"
 unfoldable pub insertPlaced : Placed → List Placed → List Placed
@@ -87,8 +105,9 @@ unfoldable pub endToEnd : List Placed → List ℕ
 endToEnd [] = []
 endToEnd (x ∷ xs) = x .bytes ++ endToEnd xs
 
-unfoldable pub faithfulLog : Card → List ℕ
-faithfulLog d = endToEnd (inOrder (d .records))
+-- and behind them the first k bytes of the record that was begun
+unfoldable pub faithfulLog : Card → ℕ → List ℕ
+faithfulLog d k = endToEnd (inOrder (d .records)) ++ take k (d .beginning)
 
 -- "and some checkpoint it holds of version S (none while S = 0)"
 unfoldable pub FaithfulFile : ℕ → Card → List ℕ → Type 0
@@ -142,7 +161,7 @@ nothingPending = record { store = S.Nothing; bytes = []; adds = none }
 
 -- "It starts from a new vault and no state."
 unfoldable pub newLasting : Lasting
-newLasting = record { vault = newVault; card = record { records = []; files = [] }; book = []; sealings = [] }
+newLasting = record { vault = newVault; card = record { records = []; files = []; beginning = [] }; book = []; sealings = [] }
 
 unfoldable pub newWorld : World
 newWorld = record { lasting = newLasting; pending = nothingPending; state = none }
@@ -162,6 +181,10 @@ done p d = record {
 
 abbrev pub settled : World → Lasting
 settled w = done (w .pending) (w .lasting)
+
+-- a cut comes before the pending store is done
+unfoldable pub broken : Pending → Lasting → Lasting
+broken p d = record { vault = d .vault; card = cardCut (p .store) (p .bytes) (d .card); book = d .book; sealings = d .sealings }
 
 -- what a taken call sealed, where c is the state that it handed back
 unfoldable pub sealedBy : State → Store → List ℕ → List Sealing
@@ -233,7 +256,7 @@ afterAnswer d before adds (some a) = afterSaid (a .said) d before adds (a .state
 unfoldable pub next : List ℕ → World → Event → World
 next key w (call k) = afterAnswer (settled w) (w .state) (addsOf key k) (answer (w .state) k)
 next key w (cut true) = record { lasting = settled w; pending = nothingPending; state = none }
-next key w (cut false) = record { lasting = w .lasting; pending = nothingPending; state = none }
+next key w (cut false) = record { lasting = broken (w .pending) (w .lasting); pending = nothingPending; state = none }
 
 unfoldable pub run : List ℕ → World → List Event → World
 run key w [] = w

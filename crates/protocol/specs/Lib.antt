@@ -17,6 +17,7 @@ pub mod Point
 pub mod Checkpoint
 pub mod Truncate
 pub mod Replay
+pub mod Tail
 pub mod Recover
 pub mod Tally
 pub mod LatestOf

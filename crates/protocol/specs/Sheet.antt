@@ -4,7 +4,7 @@
 use Prim.Native.Nat.{ℕ, zero, suc, _+_, _-_, _^_}
 use mathlib.Core.Path.{_≡_}
 use mathlib.Core.List.{List, [], _∷_, _++_}
-use lib.ListN.{length, getD, replicate}
+use lib.ListN.{length, take, getD, replicate}
 use Rattle.octets.specs.Lists.{at}
 use Rattle.octets.specs.Little.{littleBytes}
 use Rattle.aes_key.specs.Sbox.{sbox}
@@ -48,6 +48,14 @@ number (taken st n) = 0
 
 abbrev pub display : Answered → ℕ
 display a = number (a .said)
+
+-- with its values
+unfoldable pub valued : Said → List ℕ
+valued (refused n vs) = n ∷ vs
+valued (taken st n) = 0 ∷ []
+
+abbrev pub displays : Answered → List ℕ
+displays a = valued (a .said)
 
 -- ---- what the cases are about
 
@@ -101,6 +109,18 @@ module _ (key : List ℕ) where
   -- Recover after a Load of lane 0's R, V and W, with such a log
   unfoldable pub fromLog : ℕ → ℕ → ℕ → List ℕ → Answered
   fromLog r v w ns = recover (load (vaultOf r v w) key .state) [] (logOf ns) fileLen
+
+  -- the same, with bytes behind the records
+  unfoldable pub fromTorn : ℕ → ℕ → ℕ → List ℕ → List ℕ → Answered
+  fromTorn r v w ns tail = recover (load (vaultOf r v w) key .state) [] (logOf ns ++ tail) fileLen
+
+  -- the first k bytes of lane 0's record of a number
+  abbrev pub begun : ℕ → ℕ → List ℕ
+  begun k n = take k (recordBytes (aesGcm key) 0 0 n (transaction n 1))
+
+  -- 20 bytes with the head of lane 0's record of number 6 and one write, but for the kind, the lane and n, which are these
+  abbrev pub headed : ℕ → ℕ → ℕ → List ℕ
+  headed kind lane n = kind ∷ lane ∷ (littleBytes 2 n ++ (littleBytes 8 0 ++ littleBytes 8 6))
 
   -- Recover after a Load with this S
   unfoldable pub fromVersion : ℕ → List ℕ → Answered
@@ -159,4 +179,17 @@ sheet key =
     (display (fromVersion key (2 ^ 48 - 3) (versioned key (2 ^ 48 - 3))) ∷ display (fromVersion key (2 ^ 48 - 3) [])
     ∷ display (fromVersion key (2 ^ 48 - 2) (versioned key (2 ^ 48 - 2))) ∷ [])
     (0 ∷ 9 ∷ 8 ∷ [])
+    -- 02, CR 4, with R 3 and V 5: log 4 and 55 bytes of 5: 13, lane 0
+    ∷ gives (displays (fromTorn key 3 5 5 (4 ∷ []) (begun key 55 5))) (13 ∷ 0 ∷ [])
+    -- log 4 5 and 55 bytes of 6: read
+    ∷ gives (read (fromTorn key 3 5 6 (4 ∷ 5 ∷ []) (begun key 55 6))) (0 ∷ 0 ∷ 4 ∷ 5 ∷ 0 ∷ [])
+    -- log 4 5 and 20 bytes ff: 9, offset 112
+    ∷ gives (displays (fromTorn key 3 5 5 (4 ∷ 5 ∷ []) (replicate 20 0xff))) (9 ∷ 112 ∷ [])
+    -- 19 bytes ff: read
+    ∷ gives (read (fromTorn key 3 5 5 (4 ∷ 5 ∷ []) (replicate 19 0xff))) (0 ∷ 0 ∷ 4 ∷ 5 ∷ 0 ∷ [])
+    -- the head of 6: read; but for kind 2, lane 8, or n 17: 9, offset 112
+    ∷ gives (read (fromTorn key 3 5 6 (4 ∷ 5 ∷ []) (headed key 1 0 16))) (0 ∷ 0 ∷ 4 ∷ 5 ∷ 0 ∷ [])
+    ∷ gives
+    (displays (fromTorn key 3 5 6 (4 ∷ 5 ∷ []) (headed key 2 0 16)) ++ (displays (fromTorn key 3 5 6 (4 ∷ 5 ∷ []) (headed key 1 8 16)) ++ displays (fromTorn key 3 5 6 (4 ∷ 5 ∷ []) (headed key 1 0 17))))
+    (9 ∷ 112 ∷ 9 ∷ 112 ∷ 9 ∷ 112 ∷ [])
     ∷ []

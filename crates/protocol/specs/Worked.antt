@@ -92,6 +92,12 @@ restarting key = cut true ∷ call (callLoad lastVault key) ∷ []
 unfoldable pub events : List ℕ → List Event
 events key = call (callLoad newVault key) ∷ (recovering ++ (transacting key ++ restarting key))
 
+-- ---- a list that is cut while its record is written
+
+-- a transaction is accepted and sealed, and the plug is pulled before the record's store is done
+unfoldable pub tornEvents : List ℕ → List Event
+tornEvents key = call (callLoad newVault key) ∷ (recovering ++ (call (callAccept text 0 10) ∷ call (callSeal 56) ∷ cut false ∷ []))
+
 -- ---- a list with every call
 
 -- in place of the cut: a point above the record

@@ -4,4 +4,5 @@ pub mod RuleLaws
 pub mod OpenLaws
 pub mod StepLaws
 pub mod AnswerLaws
+pub mod GoesLaws
 pub mod KeyLaws
