@@ -19,7 +19,7 @@ fn file_of_version(host: &mut Host, version: u64) -> Option<Rc<[u8]>> {
 
 /// What a card that kept faith hands over; an error where it has no file of the version.
 pub fn faithful(host: &mut Host, version: u64) -> Result<Call, String> {
-    let log = host.card.log().into();
+    let log = host.card.log(0).into();
     let room = file_room(&mut host.rng, &host.params, false);
     let file = file_of_version(host, version);
     let checkpoint = file.ok_or_else(|| format!("no file of version {version} on the card"))?;

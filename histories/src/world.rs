@@ -237,7 +237,7 @@ impl<D: Device, R: Reference> World<'_, D, R> {
             return Err("Load does not take the vault's own numbers".to_string());
         }
         if bound && drawn.faithful {
-            self.tally.longest = self.tally.longest.max(host.card.log().len());
+            self.tally.longest = self.tally.longest.max(host.card.log(0).len());
             let max = host.params.counter;
             let spent = host.vault.s > max - 2 || host.vault.n > max - 2 || host.vault.e == max;
             match answer {

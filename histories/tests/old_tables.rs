@@ -157,7 +157,7 @@ impl Unit {
 
     /// Load, and a recovery of what the card holds, of so many calls at most.
     fn recover(&mut self, calls: usize) {
-        let (checkpoint, log, room) = (self.file(), self.card.log().into(), file_len(&self.twin.params) + 3);
+        let (checkpoint, log, room) = (self.file(), self.card.log(0).into(), file_len(&self.twin.params) + 3);
         let recover = Call::Recover { checkpoint, log, room };
         self.call(Call::Load { vault: self.vault.clone(), key: KEY.to_vec() }, "Load");
         for _ in 0..calls {

@@ -589,6 +589,56 @@ fn m12() {
     recover("M12 S at the maximum less 1, no checkpoint", &numbers(|x| x.s = MAX - 1), &[], &[]);
 }
 
+// ---- a torn last record
+
+fn torn_cases() {
+    let (four, five, six) = (log(&[3]), log(&[4]), log(&[5]));
+    let x = lane0(6, 5, 3);
+    let reads = |name: &str, parts: &[&[u8]]| {
+        recover(name, &x, &[], &parts.concat());
+    };
+    let ends = |name: &str, end: &[u8]| reads(name, &[&four, &five, end]);
+    reads("CR4 log 4 and 55 bytes of 5", &[&four, &five[..55]]);
+    ends("CR4 log 4 5 and 55 bytes of 6", &six[..55]);
+    ends("CR4 log 4 5 and 56 bytes of 6", &six);
+    ends("CR4 log 4 5 and 56 bytes of 6, a bit changed", &changed(six.clone(), 26));
+    ends("CR4 log 4 5 and 55 bytes of 6, a bit changed", &changed(six.clone(), 26)[..55]);
+    ends("CR4 log 4 5 and 19 bytes ff", &[255; 19]);
+    ends("CR4 log 4 5 and 20 bytes ff", &[255; 20]);
+    ends("CR4 log 4 5 and one byte ff", &[255]);
+
+    let head = |at: usize, bytes: &[u8]| {
+        let mut head = six[..20].to_vec();
+        head[at..at + bytes.len()].copy_from_slice(bytes);
+        head
+    };
+    ends("CR4 log 4 5 and the head of 6", &head(0, &[]));
+    ends("CR4 log 4 5 and the head of 6 with kind 2", &head(0, &[2]));
+    ends("CR4 log 4 5 and the head of 6 with lane 7", &head(1, &[7]));
+    ends("CR4 log 4 5 and the head of 6 with lane 8", &head(1, &[8]));
+    for n in [8, 17, 136, 144, 272_u16] {
+        ends(&format!("CR4 log 4 5 and the head of 6 with n {n}"), &head(2, &n.to_le_bytes()));
+    }
+    ends("CR4 log 4 5 and the head of 6 with another epoch and number", &head(4, &[255; 16]));
+    let longest = [&head(2, &[136, 0])[..], &[0; 156]].concat();
+    ends("CR4 log 4 5 and 175 bytes of a head with n 136", &longest[..175]);
+    ends("CR4 log 4 5 and 176 bytes of a head with n 136", &longest);
+
+    reads("CR4 log 55 bytes of 4 and 5", &[&four[..55], &five]);
+    reads("CR4 log 5 and 55 bytes of 6", &[&five, &six[..55]]);
+    let in_epoch_1 = Vault { e: 1, ..x.clone() };
+    recover("CR4 epoch 1, log 4 and 55 bytes of 5", &in_epoch_1, &[], &[&four, &five[..55]].concat());
+    let lanes_2_3 = numbers(|x| (x.w[2], x.v[2], x.w[3], x.v[3]) = (1, 1, 1, 1));
+    let first = next(&new_vault(), 3);
+    recover("CR4 log 55 bytes of lane 3, V of lanes 2 and 3 not reached", &lanes_2_3, &[], &first[..55]);
+    recover(
+        "CR4 log 4 5 and 55 bytes of 6, and the file of version 1 where S is 2",
+        &Vault { s: 2, ..x.clone() },
+        &file_of(fresh()),
+        &[&four, &five, &six[..55]].concat(),
+    );
+}
+
 fn main() {
     load_cases();
     accept_cases();
@@ -605,4 +655,5 @@ fn main() {
     m10();
     m11();
     m12();
+    torn_cases();
 }
