@@ -1,8 +1,13 @@
 //! The histories on models that are wrong in one place: each must be caught. A wrong device is held against the right
-//! model; where a claim about the whole history breaks, a wrong device is also held against one that is as wrong.
+//! model; where a claim about the whole history breaks, a wrong device is also held against one that is as wrong. A
+//! fault of the card has no other side.
+
+use std::rc::Rc;
 
 use paviluko_model::bus::sum;
-use paviluko_model::{Due, Listed, Model, Params, Phase, Refusal, Store, Table};
+use paviluko_model::sealed::{AROUND, HEAD_LEN, is_torn, record_at, record_len};
+use paviluko_model::table::number_at;
+use paviluko_model::{Card, Due, Listed, Model, Params, Phase, Refusal, Store, Table};
 
 use crate::bus::{FILLER, Frame, data_len};
 use crate::device::{Answer, Call, Device, Reference, Twin};
@@ -57,6 +62,24 @@ enum Fault {
     NoVife,
     /// The zero of a write off the bus is left as it was.
     NoZero,
+    /// Whatever does not open is passed over to the end of the log.
+    AnyEnd,
+    /// Fewer bytes than a head are passed over, and no others.
+    FewBytesAlone,
+    /// They are refused.
+    FewBytesRefused,
+    /// A record that lacks its last byte is refused.
+    ByteShort,
+    /// The kind of a torn record is not looked at.
+    AnyKind,
+    /// Nor its lane.
+    AnyLane,
+    /// Nor its n.
+    AnyLength,
+    /// Behind a torn record nothing is missed.
+    NoneMissed,
+    /// A card whose empty store leaves a torn record.
+    TornStays,
 }
 
 /// The model with a fault.
@@ -99,7 +122,13 @@ impl Device for Broken {
             model.points.iter_mut().for_each(|point| point.covered = true);
         }
         let kept = out.to_vec();
-        let mut answer = self.twin.call(call, out);
+        let mut answer = match (call, &before) {
+            (Call::Recover { checkpoint, log, room }, Some(model)) if model.phase == Phase::Cold => {
+                let log = misread_end(self.fault, model, log);
+                self.twin.call(&Call::Recover { checkpoint: Rc::clone(checkpoint), log, room: *room }, out)
+            }
+            _ => self.twin.call(call, out),
+        };
         let Some(model) = &mut self.twin.model else { return answer };
         let was = |due: Due| before.as_ref().is_some_and(|model| model.due == due);
         match (self.fault, call) {
@@ -163,6 +192,16 @@ impl Device for Broken {
                     model.table = before.table;
                 }
             }
+            (Fault::NoneMissed, Call::Recover { checkpoint, log, .. })
+                if matches!(answer, Err(Refusal { number: 13, .. })) =>
+            {
+                let (reached, end) = read(model, log);
+                if end < log.len() {
+                    let v = std::mem::replace(&mut model.vault.v, reached);
+                    answer = model.recover(checkpoint, log, out);
+                    model.vault.v = v;
+                }
+            }
             _ => {}
         }
         answer
@@ -205,12 +244,73 @@ impl Reference for Broken {
     fn model(&self) -> Option<&Model> {
         self.twin.model()
     }
+
+    fn store(&self, card: &mut Card, store: &Store, bytes: &Rc<[u8]>) {
+        let begun = Rc::clone(&card.begun);
+        card.carry_out(store, bytes);
+        if self.fault == Fault::TornStays {
+            card.begun = begun;
+        }
+    }
 }
 
 /// Whether a copy takes a call.
 fn is_taken(model: &Model, call: &Call) -> bool {
     let mut twin = Twin { params: model.params, model: Some(model.clone()) };
     twin.call(call, &mut []).is_ok()
+}
+
+/// The visible numbers that a log's records reach in each lane, and where those that open end.
+fn read(model: &Model, log: &[u8]) -> (Vec<u64>, usize) {
+    let x = &model.vault;
+    let mut reached: Vec<u64> = (0..x.v.len()).map(|i| x.r[i].min(x.v[i])).collect();
+    let mut at = 0;
+    while let Some((record, len)) = record_at(&model.params, &model.cipher, &log[at..]) {
+        let i = usize::from(record.lane);
+        if x.r[i] < record.number && record.number <= x.v[i] {
+            reached[i] = record.number;
+        }
+        at += len;
+    }
+    (reached, at)
+}
+
+/// Bytes with others in place of some of them, where there are so many.
+fn with(bytes: &[u8], at: usize, others: &[u8]) -> Vec<u8> {
+    let mut bytes = bytes.to_vec();
+    if let Some(place) = bytes.get_mut(at..at + others.len()) {
+        place.copy_from_slice(others);
+    }
+    bytes
+}
+
+/// A log for the right reader in place of the one that a wrong reader of its end has: without what only that one passes
+/// over, and with bytes that never open for what only that one refuses.
+fn misread_end(fault: Fault, model: &Model, log: &Rc<[u8]>) -> Rc<[u8]> {
+    let passes: fn(&Params, &[u8]) -> bool = match fault {
+        Fault::AnyEnd => |_, _| true,
+        Fault::FewBytesAlone => |_, last| last.len() < HEAD_LEN,
+        Fault::FewBytesRefused => |params, last| last.len() >= HEAD_LEN && is_torn(params, last),
+        Fault::ByteShort => |params, last| is_torn(params, last) && record_len(params, last) != Some(last.len() + 1),
+        Fault::AnyKind => |params, last| is_torn(params, &with(last, 0, &[1])),
+        Fault::AnyLane => |params, last| is_torn(params, &with(last, 1, &[0])),
+        Fault::AnyLength => |params, last| match record_len(params, &with(last, 2, &[16, 0])) {
+            Some(_) => last.len() < number_at(last, 2, 2) as usize + AROUND,
+            None => is_torn(params, last),
+        },
+        _ => return Rc::clone(log),
+    };
+    let params = &model.params;
+    let (_, end) = read(model, log);
+    let last = &log[end..];
+    if last.is_empty() || log.len() > params.log {
+        return Rc::clone(log);
+    }
+    match (passes(params, last), is_torn(params, last)) {
+        (true, false) => log[..end].into(),
+        (false, true) => [&log[..end], &vec![255; last.len().max(HEAD_LEN)]].concat().into(),
+        _ => Rc::clone(log),
+    }
 }
 
 /// The L bytes of what is as long as a frame with a header.
@@ -328,6 +428,14 @@ fn a_fault_on_one_side_is_caught() {
         Fault::LastRecord,
         Fault::NoVife,
         Fault::NoZero,
+        Fault::AnyEnd,
+        Fault::FewBytesAlone,
+        Fault::FewBytesRefused,
+        Fault::ByteShort,
+        Fault::AnyKind,
+        Fault::AnyLane,
+        Fault::AnyLength,
+        Fault::NoneMissed,
     ] {
         caught(fault);
     }
@@ -353,8 +461,19 @@ fn a_fault_on_both_sides_is_caught_by_what_is_known() {
     caught_alone(Fault::EpochStays, "a recovery of");
     caught_alone(Fault::AnySum, "(a byte changed) says");
     caught_alone(Fault::LastRecord, "(the wanted record twice) says");
-    caught_alone(Fault::NoVife, "extended) says");
+    caught_alone(Fault::NoVife, "(records of all sorts) says");
+    caught_too(Fault::NoVife, "extended) says");
     caught_alone(Fault::NoZero, "Accept says 4 to what came off the bus");
+    caught_alone(Fault::AnyEnd, "bytes that are no torn record");
+    for fault in [Fault::FewBytesAlone, Fault::FewBytesRefused, Fault::ByteShort] {
+        caught_too(fault, "a card that kept faith");
+        caught_too(fault, "bytes of a torn record");
+    }
+    caught_alone(Fault::AnyKind, "bytes that are no torn record");
+    caught_alone(Fault::AnyLane, "bytes that are no torn record");
+    caught_alone(Fault::AnyLength, "bytes that are no torn record");
+    caught_alone(Fault::NoneMissed, "is not as in the book");
+    caught_alone(Fault::TornStays, "in service with a torn record on the card");
 }
 
 /// The right model against itself: nothing fails, and everything comes up.

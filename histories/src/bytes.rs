@@ -2,8 +2,9 @@
 
 use std::rc::Rc;
 
+use paviluko_model::sealed::{AROUND, HEAD_LEN};
 use paviluko_model::table::number_at;
-use paviluko_model::{Model, sealed};
+use paviluko_model::{Model, Transaction, sealed};
 
 use crate::host::Host;
 use crate::rng::Rng;
@@ -57,6 +58,43 @@ pub fn any_bytes(host: &mut Host) -> Rc<[u8]> {
         }
         _ => host.a_file().unwrap_or_else(|| Rc::from([2, 0, 0, 0])),
     }
+}
+
+/// What may stand at the end of a log and does not open: fewer bytes than a head, the beginning of a record, or a head
+/// of any epoch and number with bytes behind it, now and then of a kind, a lane or an n that is not legal.
+pub fn an_end(host: &mut Host, model: &Model) -> Vec<u8> {
+    match host.rng.below(8) {
+        0 => return host.rng.bytes_below(HEAD_LEN),
+        1 | 2 => {
+            let record = if host.bound() { host.a_record() } else { Some(forged_record(host, model)) };
+            if let Some(record) = record {
+                let len = if host.rng.permille(300) { record.len() - 1 } else { host.rng.index(record.len()) };
+                return record[..len].to_vec();
+            }
+        }
+        _ => {}
+    }
+    let Host { rng, params, .. } = host;
+    let n = Transaction::len_of(1 + rng.index(params.writes));
+    let mut bytes = sealed::record_head(lane(rng, params), n, rng.any(), rng.any()).to_vec();
+    match rng.below(6) {
+        0 => bytes[0] = *rng.pick(&[0, 2, 3, 255]).unwrap_or(&0),
+        1 => bytes[1] = *rng.pick(&[8, 8, 9, 255]).unwrap_or(&8),
+        2 => {
+            // Some would be legal in one byte, or are small again in two with 40 more.
+            let n = *rng.pick(&[0, 8, 15, 17, 137, 144, 272, 65_496, 65_512, 65_535_u16]).unwrap_or(&0);
+            bytes[2..4].copy_from_slice(&n.to_le_bytes());
+        }
+        _ => {}
+    }
+    let len = match rng.below(5) {
+        0 => HEAD_LEN,
+        1 => n + AROUND - 1,
+        2 => n + AROUND,
+        _ => HEAD_LEN + rng.index(n + AROUND - HEAD_LEN),
+    };
+    bytes.extend(rng.bytes(len - HEAD_LEN));
+    bytes
 }
 
 /// A record sealed with the key: mostly the next one of a lane, with something about it changed.

@@ -2,9 +2,10 @@
 
 use std::rc::Rc;
 
+use paviluko_model::sealed::HEAD_LEN;
 use paviluko_model::{Card, Model, sealed};
 
-use crate::bytes::{any_bytes, damaged, forged_file, forged_record, head};
+use crate::bytes::{an_end, any_bytes, damaged, forged_file, forged_record, head};
 use crate::device::Call;
 use crate::host::Host;
 use crate::values::{a_transaction, file_room, transaction_of};
@@ -17,21 +18,51 @@ fn file_of_version(host: &mut Host, version: u64) -> Option<Rc<[u8]>> {
     host.rng.pick(&host.card.of_version(version)).cloned()
 }
 
+/// How many bytes of a torn record a card shows: none, fewer than a head, a head, more, all but one, or all.
+fn shown(host: &mut Host) -> usize {
+    let Host { rng, card, .. } = host;
+    let len = card.begun.len();
+    if len == 0 {
+        return 0;
+    }
+    match rng.below(6) {
+        0 => 0,
+        1 => 1 + rng.index(HEAD_LEN - 1),
+        2 => HEAD_LEN,
+        3 => HEAD_LEN + 1 + rng.index(len - HEAD_LEN - 1),
+        4 => len - 1,
+        _ => len,
+    }
+}
+
+/// Now and then a log that ends otherwise: cut off at any byte, or with more behind it.
+fn ended(host: &mut Host, model: &Model, mut log: Vec<u8>) -> Rc<[u8]> {
+    match host.rng.below(12) {
+        0 => log.truncate(host.rng.index(log.len() + 1)),
+        1..=3 => log.extend(an_end(host, model)),
+        _ => {}
+    }
+    log.into()
+}
+
 /// What a card that kept faith hands over; an error where it has no file of the version.
 pub fn faithful(host: &mut Host, version: u64) -> Result<Call, String> {
-    let log = host.card.log(0).into();
+    let torn = shown(host);
+    let log = host.card.log(torn).into();
     let room = file_room(&mut host.rng, &host.params, false);
     let file = file_of_version(host, version);
     let checkpoint = file.ok_or_else(|| format!("no file of version {version} on the card"))?;
     Ok(Call::Recover { checkpoint, log, room })
 }
 
-/// The same with something changed, so that it may be refused: damaged, left out, doubled, moved, old, not stored.
+/// The same with something changed, so that it may be refused: damaged, left out, doubled, moved, old, not stored,
+/// cut off.
 pub fn changed(host: &mut Host, model: &Model) -> Call {
     let x = &model.vault;
     let mut checkpoint = file_of_version(host, x.s).unwrap_or_default();
     let mut records: Vec<Rc<[u8]>> = host.card.records.values().cloned().collect();
-    let mut tail = None;
+    let torn = shown(host);
+    let mut tail: Rc<[u8]> = host.card.begun[..torn].into();
     for _ in 0..1 + host.rng.below(2) {
         match host.rng.below(22) {
             0 => checkpoint = host.a_file().unwrap_or(checkpoint),
@@ -53,11 +84,11 @@ pub fn changed(host: &mut Host, model: &Model) -> Call {
                 }
             }
             7 => records.clear(),
-            8 => tail = Some(any_bytes(host)),
+            8 => tail = any_bytes(host),
             9 if host.rng.permille(40) => {
                 // A log that is too long.
                 let len = host.params.log + 1 + host.rng.index(3);
-                tail = Some(vec![0; len].into());
+                tail = vec![0; len].into();
             }
             // All that was ever put out, and so in each lane in rising order.
             10 => records = host.records.clone(),
@@ -105,9 +136,9 @@ pub fn changed(host: &mut Host, model: &Model) -> Call {
             }
         }
     }
-    records.extend(tail);
+    records.push(tail);
     let room = file_room(&mut host.rng, &host.params, false);
-    Call::Recover { checkpoint, log: records.concat().into(), room }
+    Call::Recover { checkpoint, log: ended(host, model, records.concat()), room }
 }
 
 /// A log and a checkpoint sealed with the key for this state.
@@ -119,17 +150,27 @@ pub fn forged(host: &mut Host, model: &Model) -> Call {
         _ => forged_file(host, x.s),
     };
     let room = file_room(&mut host.rng, &host.params, false);
-    if host.rng.permille(12) {
-        // At the longest length, or just above it: records that every log passes over.
+    if host.rng.permille(20) {
+        // At the longest length: records that every log passes over.
         let Host { rng, params, cipher, .. } = host;
         let mut passed = |writes| sealed::seal_record(cipher, 0, 3, 0, &transaction_of(rng, params, writes));
-        let (short, long) = (passed(1), passed(2));
+        let (short, long, most) = (passed(1), passed(2), passed(params.writes));
         let mut log = short.repeat(params.log / short.len() - 1);
         while log.len() < params.log {
             log.extend(&long);
         }
-        if rng.permille(300) {
-            log.truncate(params.log + 1);
+        match rng.below(5) {
+            0 => {
+                // The last one is torn.
+                log.truncate(log.len() - long.len());
+                log.extend(&most[..long.len()]);
+            }
+            1 => {
+                // Too long, by a torn one alone.
+                let over = if rng.permille(300) { 1 } else { 1 + rng.index(most.len() - 1) };
+                log.extend(&most[..over]);
+            }
+            _ => {}
         }
         return Call::Recover { checkpoint, log: log.into(), room };
     }
@@ -167,5 +208,5 @@ pub fn forged(host: &mut Host, model: &Model) -> Call {
         }
         _ => {}
     }
-    Call::Recover { checkpoint, log: records.concat().into(), room }
+    Call::Recover { checkpoint, log: ended(host, model, records.concat()), room }
 }

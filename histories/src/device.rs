@@ -3,7 +3,7 @@
 use std::fmt;
 use std::rc::Rc;
 
-use paviluko_model::{Model, Params, Refusal, Taken, Vault, from_bus};
+use paviluko_model::{Card, Model, Params, Refusal, Store, Taken, Vault, from_bus};
 
 use crate::bus::Frame;
 use crate::raw::Raw;
@@ -124,6 +124,11 @@ pub trait Device {
 pub trait Reference: Device {
     /// The state, if there is one.
     fn model(&self) -> Option<&Model>;
+
+    /// Carries out a store on the card.
+    fn store(&self, card: &mut Card, store: &Store, bytes: &Rc<[u8]>) {
+        card.carry_out(store, bytes);
+    }
 }
 
 /// The model as a device.

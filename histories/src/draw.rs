@@ -1,6 +1,6 @@
 //! Draws what comes next, by the style of the history and the state: a cut, a handed state, a frame, or which call.
 
-use paviluko_model::{Due, Model, Phase};
+use paviluko_model::{Due, Model, Phase, Store};
 
 use crate::bus::{self, Heard};
 use crate::calls::{accept, checkpoint, commit, go_on, lengthen, load, point, seal, truncate};
@@ -36,13 +36,16 @@ fn plain(call: Call) -> Result<Drawn, String> {
 /// All calls but Load; the last one is Recover, where it is not the first call of a recovery.
 const CALLS: [fn(&mut Host, &Model) -> Call; 7] = [accept, seal, commit, point, checkpoint, truncate, go_on];
 
-/// The next event.
-pub fn event(host: &mut Host, model: Option<&Model>) -> Event {
+/// The next event, where this store is named and not yet done.
+pub fn event(host: &mut Host, model: Option<&Model>, pending: Option<&Store>) -> Event {
+    let record = matches!(pending, Some(Store::Record { .. }));
     let cuts = match host.style {
+        Style::Plain if record => 24,
         Style::Plain | Style::Points | Style::Aged => 8,
         Style::Wild | Style::Odd => 3,
         Style::Journal => 1,
-        // More of them where a store comes up seldom.
+        // More of them where a store comes up seldom, and where a record may be torn.
+        Style::Cuts if record => 100,
         Style::Cuts => match model.map(|model| model.due) {
             Some(Due::File | Due::Version | Due::TruncateDelete { .. }) => 250,
             Some(Due::RecoverEpoch | Due::RecoverEmpty | Due::RecoverSeal) => 80,
@@ -53,7 +56,8 @@ pub fn event(host: &mut Host, model: Option<&Model>) -> Event {
     let full = host.filling() && model.is_some_and(|model| is_full(host, model));
     if full || host.rng.permille(cuts) {
         host.filled |= full;
-        return Event::Cut { done: full || host.rng.permille(500) };
+        let done = if full { !host.tears } else { host.rng.permille(500) };
+        return Event::Cut { done };
     }
     let handed = match host.style {
         Style::Wild => 60,
@@ -69,12 +73,13 @@ pub fn event(host: &mut Host, model: Option<&Model>) -> Event {
     Event::Call
 }
 
-/// Whether the list and the points are full and everything is visible.
+/// Whether the list and the points are full and everything is visible; where the last record is to be torn, it has just
+/// been sealed.
 fn is_full(host: &Host, model: &Model) -> bool {
     model.points.len() == host.params.points
         && model.records.len() == host.params.records
         && model.due == Due::Nothing
-        && model.vault.v == model.vault.w
+        && (model.vault.v == model.vault.w || host.tears)
 }
 
 /// The next call; an error where the card lacks what it should have.

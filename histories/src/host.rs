@@ -31,11 +31,11 @@ pub enum Style {
 
 /// The styles, and how many of a thousand histories are of each.
 const STYLES: [(Style, u64); 8] = [
-    (Style::Plain, 500),
+    (Style::Plain, 498),
     (Style::Journal, 60),
     (Style::Points, 80),
     (Style::Cuts, 110),
-    (Style::Long, 2),
+    (Style::Long, 4),
     (Style::Aged, 70),
     (Style::Wild, 110),
     (Style::Odd, 68),
@@ -61,6 +61,8 @@ pub struct Host {
     pub off_bus: Option<Vec<u8>>,
     /// A long log was built, and is to be recovered.
     pub filled: bool,
+    /// The last record of a long log is torn.
+    pub tears: bool,
 }
 
 impl Host {
@@ -72,6 +74,7 @@ impl Host {
         let key = std::array::from_fn(|_| rng.any() as u8);
         let mut other = key;
         other[rng.index(16)] ^= 1;
+        let tears = rng.permille(500);
         let mut host = Host {
             rng,
             params,
@@ -86,6 +89,7 @@ impl Host {
             snapshots: Vec::new(),
             off_bus: None,
             filled: false,
+            tears,
         };
         if style == Style::Aged {
             host.age();
@@ -124,6 +128,11 @@ impl Host {
     /// Whether the premises of the claim about whole histories hold: no states are handed over and no bytes forged.
     pub fn bound(&self) -> bool {
         !matches!(self.style, Style::Wild | Style::Odd)
+    }
+
+    /// Whether the card may show the beginning of a torn record.
+    pub fn is_torn(&self) -> bool {
+        !self.card.begun.is_empty()
     }
 
     /// Whether a long log is being built.

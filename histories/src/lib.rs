@@ -4,10 +4,10 @@
 //! answers, the lent buffer and the states are compared, and what the scope says about whole histories is asserted: the
 //! table after an accepted Recover is the book's, and a card that kept faith is taken unless a counter is spent. What is
 //! known of a frame is asserted too, and Accept knows the layout of what came out of one. Of writes in one second the
-//! table shows the one that the request says.
+//! table shows the one that the request says, and of a log's end Recover passes over what the request says.
 //!
-//! A module uses only those named before it: `rng`, `raw`, `values`, `bus`, `device`, `tally`, `ties`, `host`, `bytes`,
-//! `cards`, `calls`, `states`, `draw`, `world`.
+//! A module uses only those named before it: `rng`, `raw`, `values`, `bus`, `device`, `tally`, `ties`, `torn`, `host`,
+//! `bytes`, `cards`, `calls`, `states`, `draw`, `world`.
 
 #[cfg(test)]
 mod broken;
@@ -23,6 +23,7 @@ mod rng;
 mod states;
 mod tally;
 mod ties;
+mod torn;
 mod values;
 mod world;
 

@@ -32,6 +32,12 @@ pub struct Tally {
     pub longest: usize,
     /// First Recover calls with what another card handed over: accepted, and refused.
     pub other_cards: [u64; 2],
+    /// Accepted Recover calls where a card that kept faith showed a torn record: fewer bytes of it than a head has, its
+    /// head, more, and all of it.
+    pub torn: [u64; 4],
+    /// First Recover calls with what another card, or a forged one, handed over: accepted with a torn end, refused with
+    /// 13 behind one, and refused with 9 at a last record of full length.
+    pub other_ends: [u64; 3],
     /// Cuts by the kind of the store that was due, and by whether the store named last was done.
     pub cut_at: [[u64; 2]; 13],
     /// Frames whose own bytes decided, by kind.
@@ -86,7 +92,7 @@ impl Tally {
     }
 
     /// What never came up: functions never taken, numbers never returned, halves of the claim never tried, kinds of frames
-    /// and readings off the bus never seen, ties too few, room for a sealing never lent.
+    /// and readings off the bus never seen, ties too few, room for a sealing never lent, torn records never shown.
     pub fn missing(&self) -> Vec<String> {
         let mut out = Vec::new();
         for (i, name) in FUNCTIONS.iter().enumerate() {
@@ -104,6 +110,13 @@ impl Tally {
             (self.faithful[1], "no card that kept faith was recovered with readings"),
             (self.spent, "no card that kept faith met a spent counter"),
             (self.other_cards[0], "no other card was taken"),
+            (self.torn[0], "no card that kept faith showed fewer than 20 bytes of a torn record"),
+            (self.torn[1], "no card that kept faith showed the head of a torn record"),
+            (self.torn[2], "no card that kept faith showed a head and more of a torn record"),
+            (self.torn[3], "no card that kept faith showed a whole record whose store was not done"),
+            (self.other_ends[0], "no other log with a torn end was accepted"),
+            (self.other_ends[1], "no other log with a torn end was refused with 13"),
+            (self.other_ends[2], "no other log was refused with 9 at a last record of full length"),
             (self.recoveries[0], "no recovery of 15 stores"),
             (self.recoveries[1], "no recovery of 24 stores"),
             (self.negative, "no reading off the bus was below 0"),
@@ -184,6 +197,13 @@ impl Tally {
             self.other_cards[0],
             self.other_cards[1],
             self.cut_at.iter().flatten().min().unwrap_or(&0)
+        );
+        let ([few, head, more, whole], [accepted, missed, full]) = (self.torn, self.other_ends);
+        let _ = writeln!(
+            out,
+            "torn records of cards that kept faith: {few} of fewer than 20 bytes, {head} heads, {more} of more, \
+             {whole} whole, all accepted; other torn ends: {accepted} accepted, {missed} refused with 13; {full} last \
+             records of full length refused with 9"
         );
         let [cold, hot, heat, cooling] = self.codes;
         let _ = writeln!(

@@ -13,7 +13,7 @@ use crate::draw::{self, Drawn, Event};
 use crate::host::{Host, Style};
 use crate::raw::Raw;
 use crate::tally::Tally;
-use crate::ties;
+use crate::{ties, torn};
 
 /// A named store that is not yet done.
 struct Pending {
@@ -87,7 +87,8 @@ pub fn run<D: Device, R: Reference>(
 impl<D: Device, R: Reference> World<'_, D, R> {
     /// Draws an event and goes through it.
     fn step(&mut self) -> Result<(), String> {
-        match draw::event(&mut self.host, self.reference.model()) {
+        let pending = self.pending.as_ref().map(|pending| &pending.store);
+        match draw::event(&mut self.host, self.reference.model(), pending) {
             Event::Cut { done } => {
                 self.tally.cuts += 1;
                 if self.host.bound()
@@ -100,7 +101,9 @@ impl<D: Device, R: Reference> World<'_, D, R> {
                 if done {
                     self.carry_out()?;
                 }
-                self.pending = None;
+                if let Some(Pending { store, bytes, .. }) = self.pending.take() {
+                    self.host.card.cut(&store, &bytes);
+                }
                 self.device.cut();
                 self.reference.cut();
                 self.stores = 0;
@@ -127,9 +130,12 @@ impl<D: Device, R: Reference> World<'_, D, R> {
     fn carry_out(&mut self) -> Result<(), String> {
         let Some(Pending { store, bytes, line }) = self.pending.take() else { return Ok(()) };
         let host = &mut self.host;
+        if host.bound() && host.is_torn() && matches!(store, Store::Record { .. } | Store::Delete { .. }) {
+            return Err(format!("{store:?} comes to a card with a torn record"));
+        }
         let before = host.vault.clone();
         host.vault.carry_out(&store);
-        host.card.carry_out(&store, &bytes);
+        self.reference.store(&mut host.card, &store, &bytes);
         if let Some(line) = line {
             host.book.lines.push(line);
             self.shown = None;
@@ -204,7 +210,11 @@ impl<D: Device, R: Reference> World<'_, D, R> {
         {
             return Err(format!("the state's numbers are not the vault's: {:?} {:?}", model.vault, self.host.vault));
         }
-        let was_cold = self.reference.model().is_some_and(|model| model.phase == Phase::Cold);
+        let was = |phase: Phase| self.reference.model().is_some_and(|model| model.phase == phase);
+        if self.host.bound() && self.host.is_torn() && was(Phase::InService) {
+            return Err("in service with a torn record on the card".to_string());
+        }
+        let was_cold = was(Phase::Cold);
         let table = match call {
             Call::Commit { .. } => self.reference.model().map(|model| model.table.clone()),
             _ => None,
@@ -236,8 +246,11 @@ impl<D: Device, R: Reference> World<'_, D, R> {
         if bound && answer.is_err() && matches!(call, Call::Load { vault, key } if own(vault, key)) {
             return Err("Load does not take the vault's own numbers".to_string());
         }
-        if bound && drawn.faithful {
-            self.tally.longest = self.tally.longest.max(host.card.log(0).len());
+        if bound
+            && drawn.faithful
+            && let Call::Recover { log, .. } = call
+        {
+            self.tally.longest = self.tally.longest.max(log.len());
             let max = host.params.counter;
             let spent = host.vault.s > max - 2 || host.vault.n > max - 2 || host.vault.e == max;
             match answer {
@@ -248,12 +261,16 @@ impl<D: Device, R: Reference> World<'_, D, R> {
                 Ok(taken) if !spent && taken.store == Some(Store::N { value: host.vault.n + 1 }) => {
                     self.tally.faithful[0] += 1;
                     self.tally.faithful[1] += u64::from(!host.book.lines.is_empty());
+                    torn::shown(log.len() - host.card.log(0).len(), host.card.begun.len(), self.tally);
                 }
                 _ => return Err("a card that kept faith was not answered as it should be".to_string()),
             }
         }
         if bound && was_cold && !drawn.faithful && matches!(call, Call::Recover { .. }) {
             self.tally.other_cards[usize::from(answer.is_err())] += 1;
+        }
+        if was_cold && let Call::Recover { log, .. } = call {
+            torn::met(&host.params, log, answer, drawn.faithful, self.tally)?;
         }
         if matches!(call, Call::Accept { transaction, .. } if host.off_bus.as_ref() == Some(transaction)) {
             match answer {
