@@ -28,6 +28,8 @@ enum {
     WRITES = 16, TEXT = 8 + 8 * WRITES, RECORD = TEXT + FRAME,
     METERS = 256, ENTRY = 24, TABLE = METERS * ENTRY, FILE_LEN = TABLE + FRAME,
     LOG = 1489,                         /* so many such records fill a log of 262,144 bytes */
+    PART = LOG / 10,                    /* so many are a tenth of one */
+    TORN = 80,                          /* so many bytes of a record more, which a cut left, fill it to the last byte */
     FILES = 8,                          /* so many checkpoints at a time */
     VERSION = 8,                        /* the version of the file that is recovered from */
     ROUNDS = 25
@@ -39,10 +41,11 @@ static struct cipher_key key;
 static uint8_t text[TEXT], record[RECORD], record_text[TEXT];
 static uint8_t table[TABLE], file[FILE_LEN], file_table[TABLE];
 static uint8_t bare_record[TEXT + TAG], bare_file[TABLE + TAG];
-static uint8_t texts[LOG * TEXT], log_bytes[LOG * RECORD];
+static uint8_t texts[LOG * TEXT], log_bytes[LOG * RECORD + TORN];
 static uint8_t key_bytes[KEY];
 static uint8_t record_nonce[NONCE] = { 1, 3, 0, 0, 2, 1 }, file_nonce[NONCE] = { 2, 0, 0, 0, 9 };
-static paviluko_state cold, serving, showing;   /* before the full log is read; in service; the same with readings */
+static paviluko_state cold, cold_part;  /* before the full log is read, and before a tenth of it is */
+static paviluko_state serving, showing; /* in service; the same with readings */
 static uint8_t out[FILE_LEN];
 
 /* ---- the work ---- */
@@ -88,12 +91,17 @@ static int checkpoints(void)
     return 1;
 }
 
-static int recover(void)
+static int recover_from(const paviluko_state *c, size_t len)
 {
-    paviluko_state s = cold;
-    taken(paviluko_do_recover(&s, file, FILE_LEN, log_bytes, sizeof log_bytes, NULL, 0), "recover");
+    paviluko_state s = *c;
+    taken(paviluko_do_recover(&s, file, FILE_LEN, log_bytes, len, NULL, 0), "recover");
     return 1;
 }
+
+static int recover(void) { return recover_from(&cold, LOG * RECORD); }
+static int recover_torn(void) { return recover_from(&cold, LOG * RECORD + TORN); }
+static int recover_part(void) { return recover_from(&cold_part, PART * RECORD); }
+static int recover_part_torn(void) { return recover_from(&cold_part, PART * RECORD + TORN); }
 
 /* ---- the cipher's part of it ---- */
 
@@ -133,6 +141,7 @@ static int bare_transactions(void) { return each(bare_transaction, PAVILUKO_RECO
 static int transactions_from_key(void) { return each(transaction_from_key, PAVILUKO_RECORDS); }
 static int bare_checkpoints(void) { return each(bare_seal_file, FILES); }
 static int bare_recover(void) { return bare_open_file() && bare_open_log(); }
+static int bare_recover_part(void) { return bare_open_file() && each(bare_open_record, PART); }
 
 static struct row {
     const char *name;
@@ -148,6 +157,9 @@ static struct row {
     { "the same, from a bare key", { transactions, transactions_from_key }, { 0, 0 } },
     { "8 checkpoints", { checkpoints, bare_checkpoints }, { 0, 0 } },
     { "recover, a full log", { recover, bare_recover }, { 0, 0 } },
+    { "the same, and a torn record", { recover_torn, bare_recover }, { 0, 0 } },
+    { "recover, a tenth of it", { recover_part, bare_recover_part }, { 0, 0 } },
+    { "the same, and a torn record", { recover_part_torn, bare_recover_part }, { 0, 0 } },
 };
 
 enum { ROWS = sizeof rows / sizeof rows[0] };
@@ -184,12 +196,15 @@ static void make_work(void)
     }
 }
 
-/* The collectors that calls start from: one whose vault has the full log's numbers, on lane 0, and the file's version; one in
-   service; and one that has made a transaction. */
+/* The collectors that calls start from: two whose vaults have the numbers of the full log, on lane 0, and of a tenth of it, and
+   the file's version; one in service; and one that has made a transaction. Behind the full log stands the beginning of a record. */
 static void make_collectors(void)
 {
     paviluko_vault x = { .w = { LOG }, .v = { LOG }, .s = VERSION };
+    paviluko_vault part = { .w = { PART }, .v = { PART }, .s = VERSION };
     taken(paviluko_do_load(&cold, &x, key_bytes, KEY), "load");
+    taken(paviluko_do_load(&cold_part, &part, key_bytes, KEY), "load");
+    memcpy(log_bytes + LOG * RECORD, log_bytes, TORN);
     start_new(&serving, key_bytes, out);
     showing = serving;
     transact(&showing, text, TEXT, 0, 0, out);
