@@ -16,6 +16,11 @@
 //! Anybody may change a card, so nothing here is believed: whatever is found is handed to the library, which decides.
 //! Names that are no position are passed over, and a `log` that cannot be read stands for an empty log. All of it goes
 //! through `Dir`, so that nothing on a card leads out of it.
+//!
+//! Cards and file systems that do not write whole or not at all leave a beginning of what was being written. Where the last file
+//! of the log has only that of a record, it is handed over as it is found: the library passes it over, or misses the record. A
+//! file that is shorter than a checkpoint is none, and is never handed over. The bench leaves both behind where it is told to
+//! (`tear_record`, `tear_checkpoint`).
 
 use std::ffi::{OsStr, OsString};
 use std::io;
@@ -23,7 +28,9 @@ use std::path::Path;
 
 use crate::dir::{Dir, Listed, MOST_NAMES};
 use crate::files::{self, Disk, Fault};
-use crate::limits::{FILE_LEN, LOG_LEN, RECORD_LEN};
+use crate::limits::{
+    FILE_LEN, HEAD_LEN, LANES, LOG_LEN, ONE_WRITE_LEN, RECORD_LEN, SEAL_LEN, STAMP_LEN, TRANSACTION_LEN, WRITE_LEN,
+};
 
 /// The file that names the generation.
 const LOG: &str = "log";
@@ -38,8 +45,8 @@ const RESERVE: &str = "reserve";
 /// Room for a checkpoint, two folders and `log` on a file system that gives each 16 KB.
 const RESERVE_LEN: usize = 65_536;
 
-/// Bytes of a checkpoint's head.
-const HEAD_LEN: usize = 20;
+/// The first byte of a record.
+const RECORD_KIND: u8 = 1;
 /// So many names are removed in one sweep; what is left then is left to the next.
 const MOST_REMOVED: usize = 16_384;
 
@@ -61,17 +68,44 @@ pub struct Card {
 pub struct Log {
     /// The records end to end in order of position.
     pub bytes: Vec<u8>,
-    /// How many there are.
+    /// How many there are, without a torn one.
     pub records: usize,
+    /// The torn one at their end.
+    pub torn: Option<Torn>,
 }
 
-/// How many files a card holds.
+/// How much a card holds.
 #[derive(Clone, Copy, Debug, PartialEq, Eq)]
 pub struct Held {
-    /// Records.
+    /// Records, without a torn one.
     pub records: usize,
-    /// Checkpoints.
+    /// The torn one at their end.
+    pub torn: Option<Torn>,
+    /// Checkpoints, without torn ones.
     pub checkpoints: usize,
+}
+
+/// A last record of which a card shows only a beginning.
+#[derive(Clone, Copy, Debug, PartialEq, Eq)]
+pub struct Torn {
+    /// Where it stands.
+    pub position: u64,
+    /// How many bytes of it do.
+    pub bytes: usize,
+    /// How many the whole record has, where its head is there to say so.
+    pub whole: Option<usize>,
+}
+
+impl Torn {
+    /// What the last file of a log has, if it is a torn record: fewer bytes than a head has, or a legal head and fewer than it
+    /// says.
+    fn of(position: u64, file: &[u8]) -> Option<Torn> {
+        let whole = match file.first_chunk() {
+            Some(head) => Some(whole_record(head).filter(|&whole| file.len() < whole)?),
+            None => None,
+        };
+        Some(Torn { position, bytes: file.len(), whole })
+    }
 }
 
 impl Card {
@@ -149,9 +183,24 @@ impl Card {
     pub fn write_checkpoint(&self, bytes: &[u8]) -> Result<(), Fault> {
         let folder = self.ensure(CHECKPOINTS)?;
         let (version, seal) = head(bytes).unwrap_or_default();
-        files::replace(&folder, &format!("{}-{}", name_of(version), name_of(seal)), bytes, FILE_MODE, self.disk)?;
-        remove_where(&folder, |_, its| its.is_some_and(|(v, n)| v == version && n < seal));
+        files::replace(&folder, &checkpoint_name(version, seal), bytes, FILE_MODE, self.disk)?;
+        if bytes.len() >= FILE_LEN {
+            remove_where(&folder, |_, its| its.is_some_and(|(v, n)| v == version && n < seal));
+        }
         Ok(())
+    }
+
+    /// For the bench: leaves so many bytes of a record at its position, as a cut does on a card that does not write whole or not
+    /// at all.
+    pub fn tear_record(&self, position: u64, bytes: &[u8], left: usize) -> Result<(), Fault> {
+        self.write_record(position, beginning(bytes, left))
+    }
+
+    /// The same of a checkpoint, under its name. The others of its version stay.
+    pub fn tear_checkpoint(&self, bytes: &[u8], left: usize) -> Result<(), Fault> {
+        let folder = self.ensure(CHECKPOINTS)?;
+        let (version, seal) = head(bytes).unwrap_or_default();
+        files::replace(&folder, &checkpoint_name(version, seal), beginning(bytes, left), FILE_MODE, self.disk)
     }
 
     /// Store: deletes the records below a position.
@@ -177,11 +226,12 @@ impl Card {
     }
 
     /// Removes what no start asks for, as far as that can be done: checkpoints of a version below S, which is stored, what
-    /// a cut left of a store, and records that are not of the generation in force.
+    /// a cut left of a store, a torn checkpoint too, and records that are not of the generation in force.
     pub fn sweep(&self, s: u64) {
         if let Ok(Some(folder)) = self.dir.folder(CHECKPOINTS) {
+            let torn = |name: &OsStr| is_checkpoint_name(name) && is_short(&folder, name);
             remove_where(&folder, |name, its| {
-                files::is_unfinished(name) || its.is_some_and(|(version, _)| version < s)
+                files::is_unfinished(name) || torn(name) || its.is_some_and(|(version, _)| version < s)
             });
         }
         if let Ok(generation) = self.generation() {
@@ -199,24 +249,29 @@ impl Card {
         self.dir.remove(RESERVE).is_ok()
     }
 
-    /// What the card hands to Recover as its log: its records, or as many as are too long for any log.
+    /// What the card hands to Recover as its log: its records, or as many as are too long for any log. A torn one at their end
+    /// is handed over as it is found.
     pub fn log(&self) -> Result<Log, Fault> {
         let mut log = Log::default();
         let Some(generation) = readable(self.generation())? else { return Ok(log) };
         let Some(records) = readable(self.folder_of(generation))?.flatten() else { return Ok(log) };
         for position in self.positions(generation)? {
             let room = (LOG_LEN + 1).saturating_sub(log.bytes.len());
-            log.bytes.extend(records.read(name_of(position), room)?.unwrap_or_default());
+            let file = records.read(name_of(position), room)?.unwrap_or_default();
+            log.bytes.extend(&file);
             log.records += 1;
             if log.bytes.len() > LOG_LEN {
-                break;
+                return Ok(Log { torn: None, ..log });
             }
+            // Of each in turn, so that what is left is the last one's.
+            log.torn = Torn::of(position, &file);
         }
+        log.records -= usize::from(log.torn.is_some());
         Ok(log)
     }
 
     /// What the card hands to Recover as its checkpoint: nothing while the version is 0, else one of that version, the
-    /// last sealed; where it has none of it, its newest, and where it has none at all, nothing.
+    /// last sealed; where it has none of it, its newest, and where it has none at all, nothing. A torn one is none.
     pub fn checkpoint(&self, version: u64) -> Result<Vec<u8>, Fault> {
         if version == 0 {
             return Ok(Vec::new());
@@ -224,8 +279,10 @@ impl Card {
         let Some(folder) = readable(self.dir.folder(CHECKPOINTS))?.flatten() else { return Ok(Vec::new()) };
         let mut best: Option<((bool, u64, u64), OsString)> = None;
         let listed = folder.names(|name| {
-            let Some(found) = head_of(&folder, name).filter(|_| !is_hidden(name)) else { return };
-            let (its, seal) = found.unwrap_or_default();
+            if !is_checkpoint(&folder, name) {
+                return;
+            }
+            let Some((its, seal)) = head_of(&folder, name) else { return };
             let rank = (its == version, its, seal);
             if best.as_ref().is_none_or(|(other, _)| rank > *other) {
                 best = Some((rank, name.to_os_string()));
@@ -233,22 +290,31 @@ impl Card {
         })?;
         whole(&folder, listed)?;
         let Some((_, name)) = best else { return Ok(Vec::new()) };
-        // A byte more than a checkpoint has: what is longer is read as too long.
-        Ok(folder.read(&name, FILE_LEN + 1)?.unwrap_or_default())
+        // A byte more than a checkpoint has: what is longer is read as too long. It may have become shorter since.
+        let bytes = folder.read(&name, FILE_LEN + 1)?;
+        Ok(bytes.filter(|bytes| bytes.len() >= FILE_LEN).unwrap_or_default())
     }
 
-    /// How many records and checkpoints it holds.
+    /// How many records and checkpoints it holds, and whether there is a torn record behind them.
     pub fn held(&self) -> Result<Held, Fault> {
-        let records = match readable(self.generation())? {
-            Some(generation) => self.positions(generation)?.len(),
-            None => 0,
-        };
+        let (mut records, mut torn) = (0, None);
+        if let Some(generation) = readable(self.generation())? {
+            let positions = self.positions(generation)?;
+            torn = positions.last().and_then(|&last| self.torn_at(generation, last));
+            records = positions.len() - usize::from(torn.is_some());
+        }
         let mut checkpoints = 0;
         if let Some(folder) = readable(self.dir.folder(CHECKPOINTS))?.flatten() {
-            let listed = folder.names(|name| checkpoints += usize::from(!is_hidden(name)))?;
+            let listed = folder.names(|name| checkpoints += usize::from(is_checkpoint(&folder, name)))?;
             whole(&folder, listed)?;
         }
-        Ok(Held { records, checkpoints })
+        Ok(Held { records, torn, checkpoints })
+    }
+
+    /// The last record of a generation, if it is torn. One that cannot be read is not known to be.
+    fn torn_at(&self, generation: u64, last: u64) -> Option<Torn> {
+        let records = self.folder_of(generation).ok()??;
+        Torn::of(last, &records.read(name_of(last), RECORD_LEN).ok()??)
     }
 
     /// Copies to a folder that is not there yet what a start with this S would be handed. The copy has its name once it is
@@ -444,9 +510,39 @@ fn position_of(name: &str) -> Option<u64> {
     digits.then(|| name.parse().ok()).flatten()
 }
 
-/// Names that begin with a dot are no checkpoint's.
-fn is_hidden(name: &OsStr) -> bool {
-    name.as_encoded_bytes().starts_with(b".")
+/// The first bytes of something that is written, or all.
+fn beginning(bytes: &[u8], left: usize) -> &[u8] {
+    bytes.get(..left).unwrap_or(bytes)
+}
+
+/// How many bytes a record has, by a head with a legal kind, lane and n.
+fn whole_record(head: &[u8; HEAD_LEN]) -> Option<usize> {
+    let [kind, lane, low, high, ..] = *head;
+    let n = usize::from(u16::from_le_bytes([low, high]));
+    let whole_writes = (ONE_WRITE_LEN..=TRANSACTION_LEN).contains(&n) && (n - STAMP_LEN).is_multiple_of(WRITE_LEN);
+    (kind == RECORD_KIND && usize::from(lane) < LANES && whole_writes).then_some(n + SEAL_LEN)
+}
+
+/// What a checkpoint's file is called.
+fn checkpoint_name(version: u64, seal: u64) -> String {
+    format!("{}-{}", name_of(version), name_of(seal))
+}
+
+/// Whether a name is one that `checkpoint_name` gives.
+fn is_checkpoint_name(name: &OsStr) -> bool {
+    let parts = name.to_str().and_then(|name| name.split_once('-'));
+    parts.is_some_and(|(version, seal)| position_of(version).is_some() && position_of(seal).is_some())
+}
+
+/// Whether a name among the checkpoints is that of one, whatever it is called: a file that is long enough. Names that begin
+/// with a dot are none's.
+fn is_checkpoint(folder: &Dir, name: &OsStr) -> bool {
+    !name.as_encoded_bytes().starts_with(b".") && folder.length(name).is_some_and(|len| len >= FILE_LEN as u64)
+}
+
+/// Whether a file is shorter than a checkpoint.
+fn is_short(folder: &Dir, name: &OsStr) -> bool {
+    folder.length(name).is_some_and(|len| len < FILE_LEN as u64)
 }
 
 /// Version and seal number in a checkpoint's head.
@@ -455,16 +551,16 @@ fn head(bytes: &[u8]) -> Option<(u64, u64)> {
     Some((number(4)?, number(12)?))
 }
 
-/// Version and seal number of a checkpoint's file, if it has a head; nothing at all for what is no file.
-fn head_of(folder: &Dir, name: &OsStr) -> Option<Option<(u64, u64)>> {
+/// Version and seal number of a checkpoint's file; nothing for one without a head, or for what is no file.
+fn head_of(folder: &Dir, name: &OsStr) -> Option<(u64, u64)> {
     let mut bytes = [0; HEAD_LEN];
     let len = folder.read_into(name, &mut bytes).ok()??;
-    Some(bytes.get(..len).and_then(head))
+    bytes.get(..len).and_then(head)
 }
 
 /// Removes those of a folder's files that are told by their name and by the version and seal number in their head.
 fn remove_where(folder: &Dir, gone: impl Fn(&OsStr, Option<(u64, u64)>) -> bool) {
-    remove_some(folder, MOST_REMOVED, |name| gone(name, head_of(folder, name).flatten()));
+    remove_some(folder, MOST_REMOVED, |name| gone(name, head_of(folder, name)));
 }
 
 /// Removes those of a folder's names that are told, up to a number of them. How many.
@@ -489,6 +585,21 @@ mod tests {
     use super::*;
     use crate::files::power::cut_everywhere;
     use crate::files::scratch::Scratch;
+    use crate::limits::WRITES;
+
+    /// The longest record's bytes, as far as the card looks at them, with a kind, a lane and an n in the head.
+    fn with_head(kind: u8, lane: u8, n: usize) -> Vec<u8> {
+        let mut bytes = vec![kind, lane];
+        bytes.extend((n as u16).to_le_bytes());
+        bytes.resize(RECORD_LEN, 7);
+        bytes
+    }
+
+    /// A record with so many writes, of the same kind.
+    fn record(writes: usize) -> Vec<u8> {
+        let n = STAMP_LEN + writes * WRITE_LEN;
+        with_head(RECORD_KIND, 3, n)[..n + SEAL_LEN].to_vec()
+    }
 
     fn file(version: u64, seal: u64) -> Vec<u8> {
         let mut bytes = vec![2, 0, 0, 0];
@@ -527,8 +638,78 @@ mod tests {
         assert_eq!(card.log().expect("read").bytes, [3, 10, 200, 255]);
         card.empty().expect("emptied");
         assert_eq!(card.log().expect("read").bytes, []);
-        card.write_record(0, &[1]).expect("written");
-        assert_eq!(card.held().expect("read"), Held { records: 1, checkpoints: 0 });
+        card.write_record(0, &record(1)).expect("written");
+        assert_eq!(card.held().expect("read"), Held { records: 1, torn: None, checkpoints: 0 });
+    }
+
+    #[test]
+    fn a_torn_record_is_handed_over_as_it_is_found() {
+        let scratch = Scratch::new();
+        let card = Card::create(&scratch.path().join("card"), Disk::Quick).expect("made");
+        card.write_record(4, &record(2)).expect("written");
+        for writes in [1, WRITES] {
+            let whole = record(writes);
+            for left in 0..=whole.len() + 1 {
+                card.tear_record(7, &whole, left).expect("torn");
+                let part = whole.get(..left).unwrap_or(&whole);
+                let torn = (left < whole.len()).then(|| {
+                    let said = (left >= HEAD_LEN).then_some(whole.len());
+                    Torn { position: 7, bytes: left, whole: said }
+                });
+                let records = if torn.is_some() { 1 } else { 2 };
+                assert_eq!(card.held().expect("read"), Held { records, torn, checkpoints: 0 });
+                let log = card.log().expect("read");
+                assert_eq!((log.bytes, log.records, log.torn), ([&record(2), part].concat(), records, torn));
+                assert_eq!(card.read_record(7).expect("read"), part);
+            }
+            // So does a copy, and what stays behind a deletion.
+            card.tear_record(7, &whole, 33).expect("torn");
+            let copy = scratch.path().join(format!("copy-{writes}"));
+            card.copy_to(&copy, 0).expect("copied");
+            let copy = Card::open(&copy, Disk::Quick).expect("there");
+            assert_eq!(copy.log().expect("read").bytes, [&record(2), &whole[..33]].concat());
+            copy.delete_below(5).expect("deleted");
+            assert_eq!(copy.log().expect("read").bytes, whole[..33]);
+            copy.empty().expect("emptied");
+            assert_eq!(copy.held().expect("read"), Held { records: 0, torn: None, checkpoints: 0 });
+        }
+    }
+
+    #[test]
+    fn what_is_no_torn_record() {
+        let scratch = Scratch::new();
+        let card = Card::create(&scratch.path().join("card"), Disk::Quick).expect("made");
+        let torn = |bytes: &[u8]| {
+            card.write_record(9, bytes).expect("written");
+            card.held().expect("read").torn
+        };
+        let legal: Vec<usize> = (1..=WRITES).map(|writes| STAMP_LEN + writes * WRITE_LEN).collect();
+        for n in 0..=usize::from(u16::MAX) {
+            assert_eq!(torn_length(n), legal.contains(&n).then_some(n + SEAL_LEN), "n {n}");
+        }
+        for (kind, lane) in [(0, 3), (2, 3), (255, 3), (1, 8), (1, 255)] {
+            // Whatever it is, it may be the beginning of a head.
+            assert!(torn(&with_head(kind, lane, 16)[..HEAD_LEN - 1]).is_some());
+            assert_eq!(torn(&with_head(kind, lane, 16)[..HEAD_LEN]), None, "kind {kind}, lane {lane}");
+        }
+        assert!((0..LANES as u8).all(|lane| torn(&with_head(1, lane, 16)[..HEAD_LEN]).is_some()));
+        // Longer than its head says, or with a file behind it.
+        assert_eq!(torn(&[record(1), vec![0]].concat()), None);
+        assert!(torn(&record(1)[..30]).is_some());
+        card.write_record(10, &record(1)).expect("written");
+        assert_eq!(card.held().expect("read"), Held { records: 2, torn: None, checkpoints: 0 });
+        assert_eq!(card.log().expect("read").torn, None);
+        // What is no file, and what no log has room for.
+        fs::create_dir(records(&card, 0).join(name_of(11))).expect("made");
+        assert_eq!(card.held().expect("read"), Held { records: 3, torn: None, checkpoints: 0 });
+        fs::remove_dir(records(&card, 0).join(name_of(11))).expect("removed");
+        fs::write(records(&card, 0).join(name_of(0)), vec![0; LOG_LEN]).expect("written");
+        assert_eq!(card.log().expect("read").torn, None);
+    }
+
+    /// How many bytes a record has whose head has this n.
+    fn torn_length(n: usize) -> Option<usize> {
+        Torn::of(0, &with_head(RECORD_KIND, 7, n)[..HEAD_LEN]).and_then(|torn| torn.whole)
     }
 
     #[test]
@@ -576,6 +757,57 @@ mod tests {
         card.sweep(5);
         assert_eq!(card.checkpoint(4).expect("read"), file(5, 8));
         assert_eq!(names(&folder).len(), 2);
+    }
+
+    #[test]
+    fn a_torn_checkpoint_is_none() {
+        let scratch = Scratch::new();
+        let card = Card::create(&scratch.path().join("card"), Disk::Quick).expect("made");
+        let whole = card.folder().join(CHECKPOINTS).join(checkpoint_name(3, 5));
+        let lengths = (0..FILE_LEN).filter(|left| *left <= 2 * HEAD_LEN || left % 61 == 0 || left + 1 == FILE_LEN);
+        for left in lengths {
+            card.tear_checkpoint(&file(3, 6), left).expect("torn");
+            assert_eq!(card.checkpoint(3).expect("read"), [], "{left} bytes alone");
+            assert_eq!(card.held().expect("read").checkpoints, 0);
+            fs::write(&whole, file(3, 5)).expect("written");
+            assert_eq!(card.checkpoint(3).expect("read"), file(3, 5), "{left} bytes beside a whole one");
+            assert_eq!(card.held().expect("read").checkpoints, 1);
+            fs::remove_file(&whole).expect("removed");
+        }
+        // One of another version comes before it too, and one that is too long is read as such.
+        card.write_checkpoint(&file(2, 4)).expect("written");
+        assert_eq!(card.checkpoint(3).expect("read"), file(2, 4));
+        card.tear_checkpoint(&file(3, 6), FILE_LEN).expect("written");
+        assert_eq!(card.checkpoint(3).expect("read"), file(3, 6));
+        let long = [file(3, 7), vec![0; 9]].concat();
+        card.tear_checkpoint(&long, usize::MAX).expect("written");
+        assert_eq!(card.checkpoint(3).expect("read"), long[..FILE_LEN + 1]);
+        assert_eq!(card.held().expect("read").checkpoints, 3);
+    }
+
+    #[test]
+    fn no_whole_checkpoint_goes_for_a_torn_one() {
+        let scratch = Scratch::new();
+        let card = Card::create(&scratch.path().join("card"), Disk::Quick).expect("made");
+        let folder = card.folder().join(CHECKPOINTS);
+        for left in [0, 1, HEAD_LEN - 1, HEAD_LEN, HEAD_LEN + 1, FILE_LEN - 1] {
+            card.write_checkpoint(&file(3, 5)).expect("written");
+            card.tear_checkpoint(&file(3, 6), left).expect("torn");
+            card.tear_checkpoint(&file(4, 7), left).expect("torn");
+            card.write_checkpoint(&file(3, 8)[..left]).expect("written");
+            assert_eq!(card.checkpoint(3).expect("read"), file(3, 5), "{left} bytes");
+            // The torn ones go; a copy has none of them.
+            let copy = scratch.path().join(format!("copy-{left}"));
+            card.copy_to(&copy, 3).expect("copied");
+            card.sweep(3);
+            for folder in [&folder, &copy.join(CHECKPOINTS)] {
+                assert_eq!(names(folder), [checkpoint_name(3, 5)], "{left} bytes");
+            }
+        }
+        // What is short and never was a checkpoint's is not the host's.
+        fs::write(folder.join("a note"), "short").expect("written");
+        card.sweep(3);
+        assert_eq!(names(&folder), [checkpoint_name(3, 5), "a note".to_string()]);
     }
 
     /// A card with records and a checkpoint, and what a recovery would see of it.

@@ -145,6 +145,12 @@ impl Dir {
         kind(self.fd(), name.as_ref()).is_some()
     }
 
+    /// How many bytes a file has; nothing where there is no file of that name.
+    pub fn length(&self, name: impl AsRef<OsStr>) -> Option<u64> {
+        let seen = seen(self.fd(), name.as_ref())?;
+        (seen.st_mode & libc::S_IFMT == libc::S_IFREG).then(|| seen.st_size.try_into().ok()).flatten()
+    }
+
     /// A new file. What had its name before is removed or put aside.
     pub fn create(&self, name: impl AsRef<OsStr>, mode: u32) -> io::Result<File> {
         let name = name.as_ref();
@@ -309,6 +315,11 @@ fn open_at(fd: c_int, name: &OsStr, flags: c_int, mode: u32) -> io::Result<File>
 
 /// What kind of thing has a name in an open folder, as the system counts them; nothing where there is none.
 fn kind(fd: c_int, name: &OsStr) -> Option<libc::mode_t> {
+    seen(fd, name).map(|seen| seen.st_mode & libc::S_IFMT)
+}
+
+/// What the system says of a name in an open folder, of a link itself; nothing where there is none.
+fn seen(fd: c_int, name: &OsStr) -> Option<libc::stat64> {
     let name = CString::new(name.as_bytes()).ok()?;
     // SAFETY: the name ends with a 0; a struct of numbers, which the call fills.
     let (seen, result) = unsafe {
@@ -316,7 +327,7 @@ fn kind(fd: c_int, name: &OsStr) -> Option<libc::mode_t> {
         let result = libc::fstatat64(fd, name.as_ptr(), &mut seen, libc::AT_SYMLINK_NOFOLLOW);
         (seen, result)
     };
-    (result == 0).then_some(seen.st_mode & libc::S_IFMT)
+    (result == 0).then_some(seen)
 }
 
 /// A name for the system: it stands in the folder itself.
@@ -373,13 +384,16 @@ mod tests {
         let _socket = UnixListener::bind(card.path().join("socket")).expect("made");
         for name in ["link", "link-to-link", "loop", "pipe", "socket", "records"] {
             assert!(matches!(card.read(name, 9), Err(Fault::Damaged { why: "is not a file", .. })), "{name}");
+            assert_eq!(card.length(name), None, "{name}");
         }
         assert!(matches!(card.read("nothing", 9), Ok(None)));
+        assert_eq!(card.length("nothing"), None);
         fs::write(card.path().join("file"), "0123456789").expect("written");
         assert_eq!(card.read("file", 9).expect("read").expect("there"), b"012345678");
         assert_eq!(card.read("file", 99).expect("read").expect("there"), b"0123456789");
         File::create(card.path().join("huge")).and_then(|file| file.set_len(1 << 40)).expect("made");
         assert_eq!(card.read("huge", 9).expect("read").expect("there"), [0; 9]);
+        assert_eq!((card.length("file"), card.length("huge")), (Some(10), Some(1 << 40)));
     }
 
     #[test]

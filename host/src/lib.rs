@@ -44,6 +44,6 @@ pub mod words;
 pub use bus::from_bus;
 pub use collector::{Collector, Due, Numbers, Phase, Reading, Refusal, Store, Taken};
 pub use limits::{
-    COUNTER_MAX, FILE_LEN, FRAME_LEN, KEY_LEN, LANES, LOG_LEN, METERS, ONE_WRITE_LEN, POINTS, RECORD_LEN, RECORDS,
-    TRANSACTION_LEN, WRITES,
+    COUNTER_MAX, FILE_LEN, FRAME_LEN, HEAD_LEN, KEY_LEN, LANES, LOG_LEN, METERS, ONE_WRITE_LEN, POINTS, RECORD_LEN,
+    RECORDS, SEAL_LEN, STAMP_LEN, TRANSACTION_LEN, WRITE_LEN, WRITES,
 };

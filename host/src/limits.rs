@@ -12,14 +12,22 @@ pub const POINTS: usize = 8;
 pub const WRITES: usize = 16;
 /// Bytes of a key.
 pub const KEY_LEN: usize = 16;
+/// Bytes of a transaction's stamp.
+pub const STAMP_LEN: usize = 8;
+/// Bytes of one of its writes.
+pub const WRITE_LEN: usize = 8;
 /// Bytes of the longest transaction.
-pub const TRANSACTION_LEN: usize = 8 + 8 * WRITES;
+pub const TRANSACTION_LEN: usize = STAMP_LEN + WRITES * WRITE_LEN;
 /// Bytes of a transaction of one write.
-pub const ONE_WRITE_LEN: usize = 8 + 8;
+pub const ONE_WRITE_LEN: usize = STAMP_LEN + WRITE_LEN;
+/// Bytes of a record's head, and of a checkpoint's.
+pub const HEAD_LEN: usize = 20;
+/// Bytes that a record or a checkpoint has beside its text: head, tag and trailer.
+pub const SEAL_LEN: usize = HEAD_LEN + 16 + 4;
 /// Bytes of the longest record.
-pub const RECORD_LEN: usize = TRANSACTION_LEN + 40;
+pub const RECORD_LEN: usize = TRANSACTION_LEN + SEAL_LEN;
 /// Bytes of a checkpoint file.
-pub const FILE_LEN: usize = METERS * 24 + 40;
+pub const FILE_LEN: usize = METERS * 24 + SEAL_LEN;
 /// Bytes of the longest log that Recover takes.
 pub const LOG_LEN: usize = 262_144;
 /// Bytes of the longest frame off the bus.

@@ -3,7 +3,8 @@
 //! The one rule of the library: a call that is taken names at most one store, and the host carries out exactly that store
 //! before the next call. `Runner::follow` does so behind every call; nothing else here sets the vault, or changes a record or a
 //! checkpoint that a start may ask for. A store that cannot be done stops the box as a power cut does, since the next call may
-//! not come before it. The plug can be pulled before or after any store.
+//! not come before it. The plug can be pulled before or after any store, and in the middle of one: then a beginning of a record
+//! or a checkpoint is left, as by a card that does not write whole or not at all.
 //!
 //! What a host does beside the stores: before a start acts on what it finds, that is on the disk, whoever wrote it (a session that
 //! was killed, somebody who copied a card), and the card was written to for a trial. When S is stored, what no start asks for any
@@ -13,7 +14,7 @@
 use std::fmt;
 use std::path::Path;
 
-use crate::card::{Card, Log};
+use crate::card::{Card, Log, Torn};
 use crate::collector::{Collector, Numbers, Phase, Reading, Refusal, Store, Taken};
 use crate::files::{Disk, Fault};
 use crate::folder::BoxFolder;
@@ -28,11 +29,13 @@ const FULL_CARD: &str = "delete from the card what is not the box's, or copy it 
 /// The number of a box that holds as many records or points as it can.
 const FULL: u8 = words::FULL_OF_RECORDS.number;
 
-/// On which side of a store the power fails.
+/// On which side of a store the power fails, or in it.
 #[derive(Clone, Copy, Debug, PartialEq, Eq)]
 pub enum Moment {
     /// The store is not done.
     Before,
+    /// So many bytes of a record or a checkpoint are written, or all that it has; any other store is not done.
+    During { bytes: usize },
     /// The store is done.
     After,
 }
@@ -41,6 +44,7 @@ impl fmt::Display for Moment {
     fn fmt(&self, to: &mut fmt::Formatter) -> fmt::Result {
         to.write_str(match self {
             Moment::Before => "before",
+            Moment::During { .. } => "during",
             Moment::After => "after",
         })
     }
@@ -68,8 +72,8 @@ pub enum Stop {
     Off,
     /// The library refused a call; the state is as before it.
     Refused(Refusal),
-    /// The plug was pulled; the state is lost.
-    Cut { moment: Moment, store: Store },
+    /// The plug was pulled; the state is lost. How many bytes the store was to write, 0 where it writes none.
+    Cut { moment: Moment, store: Store, len: usize },
     /// A store could not be done; the state is lost.
     Store { store: Store, fault: Fault },
     /// A file could not be read; the state is as before.
@@ -90,8 +94,17 @@ impl fmt::Display for Stop {
         match self {
             Stop::Off => write!(to, "the box has no power: start it first"),
             Stop::Refused(refusal) => write!(to, "refused: {refusal}"),
-            Stop::Cut { moment, store } => {
-                write!(to, "power cut {moment} the store ({store}): the state is lost; go on with start")
+            Stop::Cut { moment, store, len } => {
+                write!(to, "power cut {moment} the store ({store})")?;
+                match *moment {
+                    Moment::During { bytes } if *len > 0 => {
+                        let bytes = bytes.min(*len);
+                        write!(to, ", {bytes} byte{} of {len} written", if bytes == 1 { "" } else { "s" })?;
+                    }
+                    Moment::During { .. } => write!(to, ", nothing of it done")?,
+                    Moment::Before | Moment::After => {}
+                }
+                write!(to, ": the state is lost; go on with start")
             }
             Stop::Store { store, fault } => {
                 write!(
@@ -130,6 +143,8 @@ pub struct Started {
     pub stores: usize,
     /// Records that the card handed over.
     pub records: usize,
+    /// A torn one at their end, which was passed over.
+    pub torn: Option<Torn>,
 }
 
 /// A transaction that was given its number.
@@ -184,7 +199,7 @@ impl Runner {
         self.folder.settle()?;
         let card = self.card()?;
         card.settle()?;
-        let (first, records) = self.read(&card)?;
+        let (first, records, torn) = self.read(&card)?;
         // The card is the box's own. Where it cannot be written to, nothing has happened yet.
         if let Err(fault) = self.with_room(&card, true, || card.try_out()) {
             self.collector = None;
@@ -197,7 +212,7 @@ impl Runner {
             self.call(|collector, out| collector.recover(&[], &[], out))?;
             stores += 1;
         }
-        Ok(Started { stores, records })
+        Ok(Started { stores, records, torn })
     }
 
     /// The table that a start would come to, without one: no store is done, and vault and card stay as they are.
@@ -208,22 +223,23 @@ impl Runner {
         read.map(|_| collector.map(|collector| collector.readings()).unwrap_or_default())
     }
 
-    /// Load, and Recover's first call on what the card hands over: the store that it names, and how many records there are.
-    fn read(&mut self, card: &Card) -> Result<(Taken, usize), Stop> {
+    /// Load, and Recover's first call on what the card hands over: the store that it names, how many records there are, and a
+    /// torn one behind them.
+    fn read(&mut self, card: &Card) -> Result<(Taken, usize, Option<Torn>), Stop> {
         self.collector = None;
         self.vault = self.folder.vault()?;
         let numbers = *self.vault.numbers();
         let checkpoint = card.checkpoint(numbers.s)?;
-        let Log { bytes: log, records } = card.log()?;
+        let Log { bytes: log, records, torn } = card.log()?;
         let mut collector = Collector::load(&numbers, &*self.folder.key()?).map_err(Stop::Refused)?;
         let first = collector.recover(&checkpoint, &log, &mut self.out);
         self.collector = Some(collector);
-        Ok((first.map_err(Stop::Refused)?, records))
+        Ok((first.map_err(Stop::Refused)?, records, torn))
     }
 
     /// Accept, Seal and Commit: takes a transaction on a lane and makes it visible. A record that does not read back is read
-    /// again. Where it never does, it is removed, since no start takes a card with a record that does not open; and the box is
-    /// started again, so that the lane goes on.
+    /// again. Where it never does, it is removed, since no start takes a card with a record that does not open and is not torn; and
+    /// the box is started again, so that the lane goes on.
     pub fn take(&mut self, lane: u8, transaction: &[u8]) -> Result<Numbered, Stop> {
         let open = self.is_open(lane);
         let accepted = self.accept(lane, transaction)?;
@@ -317,7 +333,7 @@ impl Runner {
         self.collector.take().is_some()
     }
 
-    /// Pulls the plug before or after a store, counted from here; the next one is 1.
+    /// Pulls the plug before, in or after a store, counted from here; the next one is 1.
     pub fn cut_at(&mut self, store: u64, moment: Moment) {
         self.plug.set = Some((store, moment));
     }
@@ -412,23 +428,34 @@ impl Runner {
         }
     }
 
-    /// Carries out a store, unless the plug is pulled before it.
+    /// Carries out a store, unless the plug is pulled before it, or in it.
     fn carry_out(&mut self, store: Store, len: usize) -> Result<(), Stop> {
         let pulled = self.plug.count();
-        if pulled == Some(Moment::Before) {
-            self.collector = None;
-            return Err(Stop::Cut { moment: Moment::Before, store });
+        let done = match pulled {
+            Some(Moment::Before) => Ok(false),
+            Some(Moment::During { bytes }) if len == 0 || bytes < len => self.tear(&store, len, bytes).map(|()| false),
+            _ => self.store(&store, len).map(|()| true),
+        };
+        match done {
+            Ok(done) => self.stores += u64::from(done),
+            Err(fault) => {
+                self.collector = None;
+                return Err(Stop::Store { store, fault });
+            }
         }
-        if let Err(fault) = self.store(&store, len) {
-            self.collector = None;
-            return Err(Stop::Store { store, fault });
+        let Some(moment) = pulled else { return Ok(()) };
+        self.collector = None;
+        Err(Stop::Cut { moment, store, len })
+    }
+
+    /// Does as much of a store as a cut in it leaves: so many bytes of a record or a checkpoint, and nothing of any other.
+    fn tear(&self, store: &Store, len: usize, left: usize) -> Result<(), Fault> {
+        let bytes = self.out.get(..len).unwrap_or_default();
+        match *store {
+            Store::Record { position } => self.card()?.tear_record(position, bytes, left),
+            Store::Checkpoint => self.card()?.tear_checkpoint(bytes, left),
+            _ => Ok(()),
         }
-        self.stores += 1;
-        if pulled == Some(Moment::After) {
-            self.collector = None;
-            return Err(Stop::Cut { moment: Moment::After, store });
-        }
-        Ok(())
     }
 
     /// Does a store.

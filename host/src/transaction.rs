@@ -1,6 +1,6 @@
 //! Transactions in 01's layout, from what a person writes: words of a command, or lines of a CSV file.
 
-use crate::limits::WRITES;
+use crate::limits::{STAMP_LEN, WRITE_LEN, WRITES};
 
 /// A meter's reading in a transaction. Nothing is checked here: the library refuses what is not in the layout.
 #[derive(Clone, Copy, Debug, PartialEq, Eq)]
@@ -23,8 +23,8 @@ pub fn bytes(stamp: u64, writes: &[Write]) -> Vec<u8> {
 
 /// The writes in a transaction's bytes.
 pub fn writes(transaction: &[u8]) -> Vec<Write> {
-    let (writes, _) = transaction.get(8..).unwrap_or_default().as_chunks::<8>();
-    let write = |&[low, high, code, _, a, b, c, d]: &[u8; 8]| Write {
+    let (writes, _) = transaction.get(STAMP_LEN..).unwrap_or_default().as_chunks::<WRITE_LEN>();
+    let write = |&[low, high, code, _, a, b, c, d]: &[u8; WRITE_LEN]| Write {
         meter: u16::from_le_bytes([low, high]),
         code,
         reading: i32::from_le_bytes([a, b, c, d]),

@@ -95,7 +95,7 @@ pub const SENTENCES: [Sentence; 17] = [
     },
     Sentence {
         number: 13,
-        means: "visible records are missing from the card",
+        means: "visible records are missing from the card, or only the beginning of one is there",
         then: "Put the box's own card in, the one that was in it last, and start again.",
     },
     Sentence {

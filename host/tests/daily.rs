@@ -10,7 +10,7 @@ use paviluko_host::files::Disk;
 use paviluko_host::folder::BoxFolder;
 use paviluko_host::runner::{Moment, Runner, Stop};
 use paviluko_host::transaction::{self, Write};
-use paviluko_host::{RECORD_LEN, RECORDS};
+use paviluko_host::{FILE_LEN, RECORD_LEN, RECORDS};
 
 use place::Place;
 
@@ -60,8 +60,12 @@ fn ten_thousand_starts() {
     let (mut most, mut cuts) = ((0, 0), 0);
     let mut turn = 0;
     for start in 0..STARTS {
-        // Every other start is cut at one of its stores, each in turn, before or after it.
-        let moment = if start / 2 % 2 == 0 { Moment::Before } else { Moment::After };
+        // Every other start is cut at one of its stores, each in turn, before it, after it or in it.
+        let moment = match start / 2 % 3 {
+            0 => Moment::Before,
+            1 => Moment::After,
+            _ => Moment::During { bytes: start as usize % FILE_LEN },
+        };
         if start % 2 == 1 {
             runner.cut_at(1 + start / 4 % RECOVERY, moment);
         }
@@ -71,8 +75,13 @@ fn ten_thousand_starts() {
                 assert!(turn == 0 || latest(&runner, turn) == Some(turn), "start {start}");
                 turn += 1;
                 runner.take((turn % 8) as u8, &reading(turn)).expect("taken");
+                // Then a transaction that is not made visible, and one whose record is torn.
                 if start % 3 == 0 {
                     runner.accept((turn % 8) as u8, &reading(turn)).expect("accepted");
+                }
+                if start % 5 == 0 {
+                    runner.cut_at(2, Moment::During { bytes: turn as usize % RECORD_LEN });
+                    assert!(matches!(runner.take(7, &reading(turn)), Err(Stop::Cut { .. })));
                 }
             }
             Err(Stop::Cut { .. }) => cuts += 1,
