@@ -27,7 +27,7 @@ fn pick<'a, T>(random: &mut Random, list: &'a [T]) -> &'a T {
 
 /// A line of a script: often a command, often a wrong one.
 fn line(random: &mut Random) -> String {
-    const LINES: [&str; 27] = [
+    const LINES: [&str; 29] = [
         "start",
         "start",
         "start",
@@ -54,9 +54,11 @@ fn line(random: &mut Random) -> String {
         "take-bus 2 5 100 --file script",
         "cut after 3",
         "cut before 9",
+        "cut during 2 30",
+        "cut during 5 18446744073709551615",
         "#",
     ];
-    const WORDS: [&str; 26] = [
+    const WORDS: [&str; 27] = [
         "take",
         "accept",
         "commit",
@@ -65,6 +67,7 @@ fn line(random: &mut Random) -> String {
         "cut",
         "after",
         "before",
+        "during",
         "--csv",
         "--file",
         "--new",
@@ -164,7 +167,7 @@ fn no_command_and_no_file_makes_the_program_panic() {
     }
 }
 
-/// A box with readings behind and above a checkpoint, without power; and its table.
+/// A box with readings behind and above a checkpoint, and a last record that is not visible, without power; and its table.
 fn box_with_readings(folder: &Path, spring: &Path) -> (Runner, Vec<(u8, Reading)>) {
     BoxFolder::create(folder, Disk::Quick).expect("made");
     let mut runner = Runner::open(folder, Disk::Quick).expect("opened");
@@ -184,6 +187,8 @@ fn box_with_readings(folder: &Path, spring: &Path) -> (Runner, Vec<(u8, Reading)
             runner.truncate(None).expect("truncated");
         }
     }
+    let writes = [transaction::Write { meter: 3, code: 1, reading: 99 }];
+    runner.accept(1, &transaction::bytes(99, &writes)).expect("accepted");
     let table = runner.collector().expect("power").readings();
     runner.cut();
     (runner, table)

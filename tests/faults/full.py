@@ -2,8 +2,8 @@
 """Cards that fill up: a full card says so, a start on it works, and what is not needed any more is deleted.
 
 On a small file system of its own, a card is filled with a foreign file, with records, and with what the program itself can leave
-over: temporary files, and checkpoints of versions below S. Everything that was reported visible stays in the table. On a card
-with room, starts, checkpoints and readings leave no such files, and the card does not grow.
+over: temporary files, checkpoints of versions below S, and torn ones. Everything that was reported visible stays in the table. On a
+card with room, starts, checkpoints and readings leave no such files, and the card does not grow.
 
     full.py PROGRAM [--seconds N] [--only TEXT]
 """
@@ -26,10 +26,12 @@ KNOWN = bench_box.KNOWN
 # What a person can do about a full card.
 ADVICE = re.compile("delet|remov|clear|free|larger|bigger|(other|another|new|change the) card|swap|copy|tidy|truncate")
 
+# Bytes of a checkpoint.
+WHOLE = 6184
 # What a card may hold at most after any number of readings: 128 records of at most 176 bytes since the newest point and as many
 # below it, four checkpoints, the log, and two files and three folders more.
 MOST_FILES = 2 * 128 + 4 + 1 + 2 + 3
-MOST_BYTES = 2 * 128 * 176 + 4 * 6184 + 64 + 16384
+MOST_BYTES = 2 * 128 * 176 + 4 * WHOLE + 64 + 16384
 
 
 # ---- a box with a small card ----
@@ -95,9 +97,14 @@ def fill(path):
             file.write(b"\xa5" * BLOCK)
 
 
+def newest(card):
+    """A card's newest whole checkpoint."""
+    return [found for found in checkpoints(card) if os.path.getsize(found[0]) == WHOLE][-1]
+
+
 def old_checkpoints(card, count):
     """Checkpoints of versions below the newest, as a card of before may have them: names and contents."""
-    path, version, _ = checkpoints(card)[-1]
+    path, version, _ = newest(card)
     whole = text_of(path)
     for number in range(count):
         its = number % version
@@ -106,13 +113,17 @@ def old_checkpoints(card, count):
 
 
 def temporary_files(card, count):
-    """Temporary files that a cut can leave over: names and contents."""
+    """Temporary files that a cut can leave over, and torn checkpoints of the version in use: names and contents."""
     here = os.path.basename(bench_box.records(card))
-    _, version, seal = checkpoints(card)[-1]
+    path, version, seal = newest(card)
+    whole = text_of(path)
     yield ".log.new", b"generation 9\n"
     for number in range(count):
         yield f"{here}/.{position(number)}.new", b"\xa5" * 100
         yield f"checkpoints/.{position(version + number)}-{position(seal + number)}.new", b"\xa5" * 6000
+        # Torn, on a card that does not write whole or not at all.
+        torn = whole[:12] + (seal + number + 1).to_bytes(8, "little") + whole[20:-1]
+        yield f"checkpoints/{position(version)}-{position(seal + number + 1)}", torn[: number * 997 % WHOLE]
 
 
 def leave_over(card, count=2000, full=True):
@@ -132,10 +143,11 @@ def leave_over(card, count=2000, full=True):
 
 
 def left_over(box):
-    """What stands on a box's card and is not needed: temporary files, and checkpoints of versions below S."""
+    """What stands on a box's card and is not needed: temporary files, checkpoints of versions below S, and torn ones."""
     card = bench_box.card_of(box)
     below = bench_box.numbers(box)["s"][0]
-    found = [os.path.relpath(path, card) for path, version, _ in checkpoints(card) if version < below]
+    there = [(path, version, os.path.getsize(path)) for path, version, _ in checkpoints(card)]
+    found = [os.path.relpath(path, card) for path, version, length in there if version < below or length < WHOLE]
     for folder, folders, names in os.walk(card):
         temporary = [name for name in folders + names if name.startswith(".") and name.endswith(".new")]
         found += [os.path.relpath(os.path.join(folder, name), card) for name in temporary]

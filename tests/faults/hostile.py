@@ -1,5 +1,5 @@
 #!/usr/bin/env python3
-"""Cards of somebody's choosing: links, pipes, devices, folders in place of files, huge files, 100,000 names, cards that change.
+"""Cards of somebody's choosing: links, pipes, devices, folders in place of files, huge files, 100,000 names, torn files, cards that change.
 
 Each card is put to a good box three times: before a start; in place of the box's card while the box is in service; and as
 another card that is swapped in. The program answers and ends in bounded time and memory, and nothing outside the card changes.
@@ -389,6 +389,28 @@ def with_record(*names):
     return make
 
 
+def torn_record(length):
+    """The last record, which is not visible, torn."""
+
+    def make(card, _):
+        folder = bench_box.records(card)
+        os.truncate(os.path.join(folder, names_in(folder)[-1]), length)
+
+    return make
+
+
+def torn_checkpoint(length):
+    """A torn checkpoint more, of the version in use and sealed later."""
+
+    def make(card, _):
+        path, version, seal = bench_box.checkpoints(card)[-1]
+        whole = text_of(path)
+        head = whole[:12] + (seal + 1).to_bytes(8, "little")
+        write(os.path.join(card, "checkpoints", f"{position(version)}-{position(seal + 1)}"), (head + whole[20:])[:length])
+
+    return make
+
+
 def with_checkpoint(version, seal):
     """A checkpoint more, whose head claims a version and a seal number."""
 
@@ -458,12 +480,16 @@ WHOLE = {
     "nothing in the card's place": replaced_by(lambda at, site: None),
     "an empty card": replaced_by(KINDS["an empty folder"]),
 }
-# Folders that nobody reads cannot keep a box from starting.
+# What a cut leaves of a record and of a checkpoint on cards that do not write whole or not at all.
+TORN = {f"{length} bytes of the last record": torn_record(length) for length in (0, 1, 19, 20, 21, 55)}
+TORN |= {f"{length} bytes of a later checkpoint": torn_checkpoint(length) for length in (0, 1, 19, 20, 21, 6183)}
+# Folders that nobody reads cannot keep a box from starting, nor can what is torn.
 TAKEN = [
     "an empty folder of the top generation",
     "a folder of the top generation with a file",
     "an empty folder of the generation below the top",
     "a folder of a generation beyond the top",
+    *TORN,
 ]
 
 
@@ -695,7 +721,7 @@ def hostile(program, folder, only):
     for place in (place for place in used if place in FIRST):
         for kind, make in kinds.items():
             test.attempt(f"{kind} as {place}, before a first start", before_start, new, stands(make, place))
-    for name, make in WHOLE.items():
+    for name, make in {**WHOLE, **TORN}.items():
         test.three(bench, name, make)
     for name, make in CROWDS.items():
         # The checkpoints are still there after a copy; one copy will do.

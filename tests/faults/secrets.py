@@ -301,6 +301,7 @@ def memory_without_key(program, folder):
     for store in (1, 2, 3):
         searched(f"a checkpoint cut after store {store}", "start", "point", f"cut after {store}", "checkpoint")
         searched(f"a reading cut after store {store}", "start", f"cut after {store}", "take 0 2000 1=1:11")
+        searched(f"a reading cut in store {store}", "start", f"cut during {store} 30", "take 0 2000 1=1:11")
     # A card that is refused.
     card = bench_box.card_of(box)
     with Session(program, box) as session:

@@ -1,7 +1,7 @@
 #!/bin/sh
 # The program paviluko as a person uses it: sessions with expected answers, those of the documents at a terminal, its identity,
-# command lines, odd input, completion, damaged files, cards changed and damaged, and the program killed at random moments. A line
-# each.
+# command lines, odd input, completion, damaged files, cards changed, torn and damaged, and the program killed at random moments. A
+# line each.
 # Run from the repository's top; the library is built before. PAVILUKO_LIB may name another folder with its archive.
 # With the argument --write, the answers become the expected ones (look at them before you commit them).
 set -eu
@@ -416,7 +416,7 @@ damaged() {
         cp -r good box
         quietly "$program" run box script
     fi
-    tail -n +2 "$log" | diff table - >&2 || fail "another table, after: $2"
+    sed -n '/^meter,/,$p' "$log" | diff table - >&2 || fail "another table, after: $2"
     rm -rf box
     cp -r good box
 }
@@ -448,6 +448,18 @@ flip "$(record 1)" 30;                      damaged 1 'refused: 9 (byte 56)'
 flip "$(record 2)" 55;                      damaged 1 'refused: 9 (byte 112)'
 head -c 55 "good/${records#box/}/00000000000000000001" >"$(record 1)"
 damaged 1 'refused: 9 (byte 56)'
+# The last record, which is visible, torn; then the beginning of one more; then what is no beginning of a record.
+for torn in '1 byte' '19 bytes' '20 of 56 bytes' '21 of 56 bytes' '55 of 56 bytes'; do
+    head -c "${torn%% *}" "good/${records#box/}/00000000000000000002" >"$(record 2)"
+    damaged 1 'refused: 13 (lane 1)'
+    head -c "${torn%% *}" "good/${records#box/}/00000000000000000000" >"$(record 3)"
+    damaged 0 "passed over: $torn of a record at position 3"
+done
+: >"$(record 3)";                           damaged 0 'passed over: 0 bytes of a record at position 3'
+head -c 19 /dev/zero >"$(record 3)";        damaged 0 'passed over: 19 bytes of a record at position 3'
+head -c 20 /dev/zero >"$(record 3)";        damaged 1 'refused: 9 (byte 168)'
+head -c 19 /dev/zero >>"$(record 2)";       damaged 0 'in service after 15 stores; 3 records'
+head -c 20 /dev/zero >>"$(record 2)";       damaged 1 'refused: 9 (byte 168)'
 : >"$(record 2)";                           damaged 1 'refused: 13 (lane 1)'
 rm "$(record 2)";                           damaged 1 'refused: 13 (lane 1)'
 rm "$(record 1)";                           damaged 1 'refused: 13 (lane 0)'
@@ -477,6 +489,14 @@ rm "$(checkpoint 2)";                       damaged 1 'refused: 9 (byte 0)'
 rm -r "$files";                             damaged 1 'refused: 9 (byte 0)'
 rm -r "$files"; : >"$files";                damaged 1 'refused: 9 (byte 0)'
 : >"$(checkpoint 2)";                       damaged 1 'refused: 9 (byte 0)'
+head -c 6183 "good/${files#box/}/"* >"$(checkpoint 2)"
+damaged 1 'refused: 9 (byte 0)'
+# Torn ones of the version that the vault expects, beside the whole one; the seal number is a later one.
+for len in 0 13 20 6183; do
+    head -c "$len" "$(checkpoint 2)" >"$files/torn"
+    [ "$len" -lt 13 ] || flip "$files/torn" 12
+    damaged 0 'in service after 15 stores; 3 records'
+done
 echo more >>"$(checkpoint 2)";              damaged 1 'refused: 9 (byte 0)'
 cp "other/${files#box/}/"* "$files";        damaged 1 'refused: 9 (byte 0)'
 mv "$(checkpoint 2)" "$files/of-any-name";  damaged 0 'in service'
@@ -506,6 +526,8 @@ quietly sh tools/cargo.sh test --release --quiet -p paviluko_host --lib --bins -
 echo "program: off the bus, as the library says: $(grep -o '[0-9]* frames: .*' "$log")"
 quietly sh tools/cargo.sh test --release --quiet -p paviluko_host --test cards
 echo 'program: vault file, card folder and the change of a card, cut at every store'
+quietly sh tools/cargo.sh test --release --quiet -p paviluko_host --test torn -- --nocapture
+echo "program: $(grep -o '[0-9]* beginnings of a record passed over.*' "$log"), $(grep -o '[0-9]* of a visible one missed.*' "$log")"
 quietly sh tools/cargo.sh test --release --quiet -p paviluko_host --test odd -- --nocapture
 echo "program: random commands and files, no panic; $(grep -o '[0-9]* damaged cards.*table' "$log")"
 quietly sh tools/cargo.sh test --release --quiet -p paviluko_host --test killed -- --nocapture

@@ -60,8 +60,9 @@ on standard error, with the reason.
 
 const DEMO: &str = "\
 Shows the main job on a new box and checks it: a day's readings, a checkpoint and a truncation, the
-plug pulled before and after every store, old cards put in and refused. The box and its cards are
-made in the folder DIR, which is not there yet, or in a folder that is removed in the end.
+plug pulled before and after every store and in the middle of some, old cards put in and refused.
+The box and its cards are made in the folder DIR, which is not there yet, or in a folder that is
+removed in the end.
 ";
 
 /// A command of the command line.

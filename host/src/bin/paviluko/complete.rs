@@ -20,7 +20,7 @@ pub fn words(line: &str) -> Vec<String> {
         [name] if word.starts_with('-') => of(help::options(name)),
         ["take", .., "--csv"] | ["take-bus", .., "--file"] => paths(word, false),
         ["swap-card"] | ["copy-card"] | ["swap-card", "--new"] => paths(word, true),
-        ["cut"] => of(&["before", "after"]),
+        ["cut"] => of(&["before", "after", "during"]),
         [name @ ("take" | "take-bus"), ..] if word.starts_with('-') => of(help::options(name)),
         _ => Vec::new(),
     }
@@ -62,6 +62,7 @@ mod tests {
         assert_eq!(words("take --n"), ["--no-tidy"]);
         assert_eq!(words("take --no-tidy --c"), ["--csv"]);
         assert_eq!(words("cut b"), ["before"]);
+        assert_eq!(words("cut d"), ["during"]);
         assert_eq!(words("take-"), ["take-bus"]);
         assert_eq!(words("take-bus 0 5 now --f"), ["--file"]);
         assert_eq!(words("take-bus 0 5 now --file /dev/nul"), ["/dev/null"]);

@@ -1,5 +1,6 @@
 //! The main job, shown and checked: a new box, a day's readings on eight lanes, a checkpoint and a truncation, the plug
-//! pulled before and after every single store, old cards put in and refused, the right card put back, the table.
+//! pulled before and after every single store and in the middle of some, old cards put in and refused, the right card put
+//! back, the table.
 //!
 //! The demonstration writes down itself what was made visible, and after every start compares the box's table with it.
 //! The plug is pulled inside this process, so its stores do not wait for the disk.
@@ -16,7 +17,7 @@ use paviluko_host::files::{Disk, Fault, shown};
 use paviluko_host::folder::BoxFolder;
 use paviluko_host::runner::{Moment, Runner, Stop};
 use paviluko_host::transaction::{self, Write as Entry};
-use paviluko_host::{LANES, METERS, Reading, Refusal, WRITES};
+use paviluko_host::{FILE_LEN, HEAD_LEN, LANES, METERS, Reading, Refusal, SEAL_LEN, WRITES};
 
 use crate::colour::{Colours, Tone};
 use crate::screen;
@@ -27,6 +28,8 @@ const DAY: u64 = 1500;
 /// Monday, 2 March 2026, 00:00 UTC.
 const MORNING: u64 = 1_772_409_600;
 const MOMENTS: [Moment; 2] = [Moment::Before, Moment::After];
+/// So many bytes are left of what a cut tears: few, and about as many as a head has. All but one are left, too.
+const TORN: [usize; 4] = [1, HEAD_LEN - 1, HEAD_LEN, HEAD_LEN + 1];
 /// Stores of a recovery, without and with numbers that were handed out and not made visible.
 const RECOVERIES: [u64; 2] = [15, 24];
 /// Lines of the table that are shown, at its start and at its end.
@@ -331,7 +334,7 @@ impl Demo {
         Ok(())
     }
 
-    /// 6. The same for every store of a transaction, a checkpoint and a truncation.
+    /// 6. The same for every store of a transaction, a checkpoint and a truncation; then in a record and in a checkpoint.
     fn cut_the_rest(&mut self) -> Result<(), Trouble> {
         self.heading(6, "The same for a transaction (3 stores), a checkpoint (3) and a truncation (9)")?;
         for store in 1..=15 {
@@ -343,7 +346,47 @@ impl Demo {
             }
             self.tick()?;
         }
-        self.say("30 cuts, 30 starts: all in service, and each table as made visible")
+        for left in TORN.into_iter().map(Some).chain([None]) {
+            self.tear_record(left)?;
+            self.tear_checkpoint(left.unwrap_or(FILE_LEN - 1))?;
+            self.tick()?;
+        }
+        self.say("30 cuts, 30 starts: all in service, and each table as made visible")?;
+        let (lengths, cuts) = (TORN.map(|left| left.to_string()).join(", "), 2 * (TORN.len() + 1));
+        self.say(&format!(
+            "{cuts} more in the write of a record and of a checkpoint, which leave {lengths} bytes of it on the card, \
+             or all but one: the same"
+        ))
+    }
+
+    /// Takes a transaction, and is cut in the write of its record: so many bytes are left of it, or all but one. The start
+    /// passes them over.
+    fn tear_record(&mut self, left: Option<usize>) -> Result<(), Trouble> {
+        self.take()?;
+        let taking = self.house.next();
+        let transaction = transaction::bytes(taking.stamp, &taking.entries);
+        let bytes = left.unwrap_or(transaction.len() + SEAL_LEN - 1);
+        let moment = Moment::During { bytes };
+        self.runner.cut_at(2, moment);
+        let broken = self.runner.take(taking.lane, &transaction);
+        self.expect_cut(broken.map(|_| ()), moment)?;
+        let started = self.runner.start()?;
+        self.check()?;
+        match started.torn {
+            Some(torn) if torn.bytes == bytes => Ok(()),
+            other => wrong(format!("{bytes} bytes were left of a record, and the start found {other:?}")),
+        }
+    }
+
+    /// Makes a checkpoint, and is cut in the write of its file: the one before it counts.
+    fn tear_checkpoint(&mut self, bytes: usize) -> Result<(), Trouble> {
+        self.take()?;
+        let moment = Moment::During { bytes };
+        self.runner.cut_at(2, moment);
+        let broken = self.runner.checkpoint();
+        self.expect_cut(broken.map(|_| ()), moment)?;
+        self.runner.start()?;
+        self.check()
     }
 
     /// Takes a transaction, sets a point, makes a checkpoint and truncates, and is cut on the way.

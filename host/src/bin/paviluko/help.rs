@@ -32,7 +32,7 @@ const fn entry(form: &'static str, text: &'static str) -> Entry {
     Entry { form, text }
 }
 
-const ENTRIES: [Entry; 23] = [
+const ENTRIES: [Entry; 24] = [
     entry("start", "loads and recovers the box, until it is in service"),
     entry(
         "take LANE STAMP METER=CODE:READING ..",
@@ -61,6 +61,11 @@ const ENTRIES: [Entry; 23] = [
     entry("cut", "pulls the plug now"),
     entry("cut before N", "pulls it before the Nth store from here"),
     entry("cut after N", "pulls it after the Nth store from here"),
+    entry(
+        "cut during N BYTES",
+        "pulls it in the Nth store from here: the first BYTES bytes of a record or a checkpoint are left on the card, \
+         and nothing of any other store",
+    ),
     entry("help [COMMAND]", "lists the commands, or the ways to write one"),
     entry("quit", "ends the session, which is a power cut"),
     entry("# ..", "is passed over"),

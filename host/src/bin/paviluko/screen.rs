@@ -3,9 +3,9 @@
 use std::fmt::Write;
 use std::path::Path;
 
-use paviluko_host::card::CHECKPOINTS;
+use paviluko_host::card::{CHECKPOINTS, Torn};
 use paviluko_host::files::shown;
-use paviluko_host::runner::Runner;
+use paviluko_host::runner::{Moment, Runner};
 use paviluko_host::words::medium;
 use paviluko_host::{Collector, LANES, POINTS, RECORDS, Reading};
 
@@ -19,6 +19,8 @@ const ABOUT_BOX: [(&str, &str); 3] = [
     ("S", "the version of the checkpoint in use"),
     ("N", "the seal number of the last checkpoint: none is used twice"),
 ];
+/// What becomes of a torn record.
+const ABOUT_TORN: &str = "A start passes over what is there of it; if the record is visible, it is missing (13)";
 /// W, V and R in few words; at most 40 columns.
 const ABOUT_LANES: [&str; 3] = [
     "W  numbers handed out in the lane",
@@ -66,7 +68,11 @@ pub fn status(runner: &Runner) -> (String, String) {
     let mut out = String::new();
     let mut line = |name: &str, text: &str| out.push_str(&wrap(&format!("{name:<COLUMN$}{text}"), COLUMN));
     line("box", &near(runner.folder().path()));
-    line("card", &card_folders(runner));
+    let (card, found) = card_folders(runner);
+    line("card", &card);
+    if let Some(found) = found {
+        line("torn", &format!("{}. {ABOUT_TORN}", torn(&found)));
+    }
     let collector = runner.collector();
     line("phase", &collector.map_or("no power".to_string(), |c| c.phase().to_string()));
     if let Some(collector) = collector {
@@ -75,7 +81,7 @@ pub fn status(runner: &Runner) -> (String, String) {
         line("points", &points(collector));
     }
     if let Some((store, moment)) = runner.cut_set() {
-        line("plug", &format!("to be pulled {moment} store {store} from here"));
+        line("plug", &format!("to be pulled {}", plug(store, moment)));
     }
     let numbers = runner.numbers();
     let values = [numbers.e, numbers.s, numbers.n].map(|number| number.to_string());
@@ -112,16 +118,32 @@ pub fn card(runner: &Runner) -> String {
     }
 }
 
-/// The same, with where on the card it is.
-fn card_folders(runner: &Runner) -> String {
+/// The same, with where on the card it is; and the torn record that the card shows.
+fn card_folders(runner: &Runner) -> (String, Option<Torn>) {
     let seen = runner.card().and_then(|card| Ok((near(card.folder()), card.held()?, card.records_folder()?)));
     match seen {
         Ok((folder, held, records_folder)) => {
             let (records, checkpoints) = (count(held.records, "record"), count(held.checkpoints, "checkpoint"));
-            format!("{folder}: {records} in {records_folder}, {checkpoints} in {}", CHECKPOINTS)
+            (format!("{folder}: {records} in {records_folder}, {checkpoints} in {}", CHECKPOINTS), held.torn)
         }
-        Err(fault) => fault.to_string(),
+        Err(fault) => (fault.to_string(), None),
     }
+}
+
+/// What is there of a torn record.
+pub fn torn(torn: &Torn) -> String {
+    let Torn { position, bytes, whole } = *torn;
+    let there = whole.map_or(count(bytes, "byte"), |whole| format!("{bytes} of {whole} bytes"));
+    format!("{there} of a record at position {position}")
+}
+
+/// When the plug is pulled.
+pub fn plug(store: u64, moment: Moment) -> String {
+    let written = match moment {
+        Moment::During { bytes } => format!(", with {} written", count(bytes, "byte")),
+        Moment::Before | Moment::After => String::new(),
+    };
+    format!("{moment} store {store} from here{written}")
 }
 
 /// So many of a thing.

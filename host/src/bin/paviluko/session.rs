@@ -91,6 +91,7 @@ impl Session {
             ("cut", []) => Ok(self.cut()),
             ("cut", ["before", store]) => Ok(self.cut_at(store, Moment::Before)),
             ("cut", ["after", store]) => Ok(self.cut_at(store, Moment::After)),
+            ("cut", ["during", store, bytes]) => Ok(self.cut_during(store, bytes)),
             ("help", []) => Ok(Answer::fine(help::all())),
             ("help", [command]) => Ok(help::of(command)),
             ("quit" | "exit", []) => Ok(Answer::quit()),
@@ -101,7 +102,9 @@ impl Session {
 
     fn start(&mut self) -> Result<Answer, Stop> {
         let started = self.runner.start()?;
-        Ok(Answer::fine(in_service(&self.runner, &started)))
+        let answer = Answer::fine(in_service(&self.runner, &started));
+        let passed_over = started.torn.map(|torn| format!("passed over: {}", screen::torn(&torn)));
+        Ok(passed_over.into_iter().fold(answer, |answer, text| answer.and(Tone::Plain, text)))
     }
 
     /// Takes a transaction in a command's words.
@@ -313,9 +316,16 @@ impl Session {
         match store.parse() {
             Ok(store) if store > 0 => {
                 self.runner.cut_at(store, moment);
-                Answer::fine(format!("the plug will be pulled {moment} store {store} from here"))
+                Answer::fine(format!("the plug will be pulled {}", screen::plug(store, moment)))
             }
             _ => Answer::wrong("the store as a number from 1 on"),
+        }
+    }
+
+    fn cut_during(&mut self, store: &str, bytes: &str) -> Answer {
+        match bytes.parse() {
+            Ok(bytes) => self.cut_at(store, Moment::During { bytes }),
+            Err(_) => Answer::wrong("the bytes as a number from 0 on"),
         }
     }
 }
