@@ -5,10 +5,11 @@
  *   firmware                  a new box, a day of readings, and the table of latest readings
  *   firmware --cut-before N   the same day, but the power fails before store N is done; then the box starts again
  *   firmware --cut-after N    the same, right after store N is done
+ *   firmware --cut-in N       the same, while store N is being done: of a record or a checkpoint file the card has a beginning
  *   firmware --misread N      the Nth time that a record is read back from the card, a bit is wrong
  *   firmware --spoil N        the card does not keep the Nth record that is written
- *   firmware --every          the day once for each store of it, cut before that store and cut after it, and with a second
- *                             cut at the stores of the recovery; the table is checked after each start
+ *   firmware --every          the day once for each store of it, cut before that store, in it and after it, and with a
+ *                             second cut at the stores of the recovery; the table is checked after each start
  *
  * Stores are counted from the first power on. C99, C11 or C++17:
  *
@@ -40,9 +41,14 @@ typedef struct {
 } card_record;
 
 typedef struct {
+    size_t len;
+    uint8_t bytes[PAVILUKO_CHECKPOINT_LEN];
+} card_file;
+
+typedef struct {
     card_record records[CARD_RECORDS]; /* the first record_count, in order of position */
     size_t record_count;
-    uint8_t files[CARD_FILES][PAVILUKO_CHECKPOINT_LEN]; /* the first file_count */
+    card_file files[CARD_FILES]; /* the first file_count */
     size_t file_count;
 } card_memory;
 
@@ -62,11 +68,13 @@ static struct {
     uint8_t log[CARD_RECORDS * PAVILUKO_RECORD_MAX]; /* the card's records end to end; PAVILUKO_LOG_MAX is always enough */
 } ram;
 
+/* On which side of a store the power fails, or in it. */
+enum { BEFORE, IN, AFTER, MOMENTS };
+
 /* What the demonstration does to the hardware. A firmware has none of this. 0 means never. */
 static struct {
     unsigned long stores; /* stores so far */
-    unsigned long cut_before;
-    unsigned long cut_after;
+    unsigned long cut[MOMENTS];
     unsigned long reads; /* records read back so far */
     unsigned long misread;
     unsigned long written; /* records written so far */
@@ -85,14 +93,17 @@ static uint64_t number_at(const uint8_t *bytes)
     return number;
 }
 
-/* The version of a checkpoint file is its bytes 4 to 11. */
-static uint64_t version_of(const uint8_t *file)
+/* Whether this is a checkpoint file of version S: all of it, for what a cut has left of one is none. The version is its bytes
+ * 4 to 11. */
+static int file_in_use(const card_file *f)
 {
-    return number_at(file + 4);
+    return f->len == PAVILUKO_CHECKPOINT_LEN && number_at(f->bytes + 4) == vault.s;
 }
 
-/* Writes a record; whether it was done. Positions only rise until the log is emptied, so it comes behind the others. A cut
- * must leave it whole or not there at all: on a real card, write it under another name, flush, and rename. */
+/* Writes a record; whether it was done. Positions only rise until the log is emptied, so it comes behind the others. A cut may
+ * leave it whole, not there at all, or any beginning of it at the end of the log: recover passes over a beginning. The other
+ * records must stay as they are. (Where the card has names, write it under another one, flush, and rename: then it is whole or
+ * not there.) */
 static int card_write_record(uint64_t position, const uint8_t *bytes, size_t len)
 {
     card_record *r;
@@ -107,13 +118,17 @@ static int card_write_record(uint64_t position, const uint8_t *bytes, size_t len
     return 1;
 }
 
-/* Writes a checkpoint file beside the older ones; whether it was done. Whole or not at all, as a record. */
+/* Writes a checkpoint file beside the older ones; whether it was done. A cut may leave a beginning of it: it must be told from
+ * a whole one, here by its length. The older ones must stay as they are. (The same by a rename.) */
 static int card_write_file(const uint8_t *bytes, size_t len)
 {
-    if (card.file_count == CARD_FILES || len != PAVILUKO_CHECKPOINT_LEN) {
+    card_file *f;
+    if (card.file_count == CARD_FILES || len > sizeof f->bytes) {
         return 0;
     }
-    memcpy(card.files[card.file_count], bytes, len);
+    f = &card.files[card.file_count];
+    f->len = len;
+    memcpy(f->bytes, bytes, len);
     card.file_count++;
     return 1;
 }
@@ -146,20 +161,22 @@ static size_t card_read_record(uint64_t position)
     return 0;
 }
 
-/* Copies the checkpoint file of version S into ram.file. 0 while S is 0, and where the card has none. */
+/* Copies the checkpoint file of version S into ram.file. 0 while S is 0, and where the card has none. A torn one is never
+ * handed over. */
 static size_t card_read_file(void)
 {
     size_t i;
     for (i = 0; vault.s != 0 && i < card.file_count; i++) {
-        if (version_of(card.files[i]) == vault.s) {
-            memcpy(ram.file, card.files[i], PAVILUKO_CHECKPOINT_LEN);
+        if (file_in_use(&card.files[i])) {
+            memcpy(ram.file, card.files[i].bytes, PAVILUKO_CHECKPOINT_LEN);
             return PAVILUKO_CHECKPOINT_LEN;
         }
     }
     return 0;
 }
 
-/* Copies the records end to end into ram.log; `last` becomes the offset of the last one. */
+/* Copies the records end to end into ram.log; `last` becomes the offset of the last one. A torn one at their end is handed over
+ * as it is found: recover judges it. */
 static size_t card_read_log(size_t *last)
 {
     size_t i, len = 0;
@@ -172,18 +189,15 @@ static size_t card_read_log(size_t *last)
     return len;
 }
 
-/* Deletes the checkpoint files of other versions than S. Nobody asks again for one below S. One above S was left by a cut that
- * came between the file and S; the next checkpoint of that version writes its own. So it is called only while the store of S is
- * not the one that is due. */
+/* Deletes the checkpoint files of other versions than S, and torn ones. Nobody asks again for one below S. One above S was left
+ * by a cut that came between the file and S; the next checkpoint of that version writes its own. So it is called only while the
+ * store of S is not the one that is due. */
 static void card_forget_files(void)
 {
     size_t i, kept = 0;
     for (i = 0; i < card.file_count; i++) {
-        if (version_of(card.files[i]) == vault.s) {
-            if (kept != i) {
-                memcpy(card.files[kept], card.files[i], PAVILUKO_CHECKPOINT_LEN);
-            }
-            kept++;
+        if (file_in_use(&card.files[i])) {
+            card.files[kept++] = card.files[i];
         }
     }
     card.file_count = kept;
@@ -210,21 +224,37 @@ static int carry_out(const paviluko_said *said)
     }
 }
 
+/* Cuts short what was written last: a part of it that changes from store to store. */
+static void tear(const paviluko_said *said)
+{
+    size_t left = (size_t)(trial.stores * 31 % said->len);
+    if (said->store == PAVILUKO_STORE_RECORD) {
+        card.records[card.record_count - 1].len = left;
+    } else {
+        card.files[card.file_count - 1].len = left;
+    }
+}
+
 /* The same with the demonstration's plug and its bad card. A firmware has carry_out alone. */
 static int carry_out_or_cut(const paviluko_said *said)
 {
-    int done;
-    if (said->store != PAVILUKO_STORE_NONE) {
-        trial.stores++;
+    int done, writes = said->store == PAVILUKO_STORE_RECORD || said->store == PAVILUKO_STORE_FILE;
+    if (said->store == PAVILUKO_STORE_NONE) {
+        return 1;
     }
-    if (said->store != PAVILUKO_STORE_NONE && trial.stores == trial.cut_before) {
+    trial.stores++;
+    if (trial.stores == trial.cut[BEFORE] || (trial.stores == trial.cut[IN] && !writes)) {
         return 0;
     }
     done = carry_out(said);
     if (done && said->store == PAVILUKO_STORE_RECORD && ++trial.written == trial.spoil) {
         card.records[card.record_count - 1].bytes[30] ^= 4;
     }
-    return done && (said->store == PAVILUKO_STORE_NONE || trial.stores != trial.cut_after);
+    if (done && trial.stores == trial.cut[IN]) {
+        tear(said);
+        return 0;
+    }
+    return done && trial.stores != trial.cut[AFTER];
 }
 
 /* What an operation comes to. */
@@ -261,8 +291,8 @@ static NOT_INLINED outcome start(void)
     }
     o = follow(paviluko_do_recover(&ram.state, ram.file, file_len, ram.log, log_len, ram.out, sizeof ram.out));
     if (o == REFUSED && ram.said.number == PAVILUKO_REFUSED_CLOSED && log_len != 0 && ram.said.value == last) {
-        /* The last record does not open: the card has not kept it. Leave it out; had it been visible, recover would say 13.
-         * (With one record, 0 may also mean the checkpoint: then this is turned down again.) */
+        /* The last record is all there and does not open: the card has not kept it. Leave it out; had it been visible, recover
+         * would say 13. (With one record, 0 may also mean the checkpoint: then this is turned down again.) */
         log_len = last;
         o = follow(paviluko_do_recover(&ram.state, ram.file, file_len, ram.log, log_len, ram.out, sizeof ram.out));
     }
@@ -481,8 +511,8 @@ static int table_right(void)
 
 static void fail(const char *what)
 {
-    printf("firmware: %s (cut before %lu, after %lu; store %lu; last call said %d)\n", what, trial.cut_before, trial.cut_after,
-           trial.stores, ram.said.number);
+    printf("firmware: %s (cut before %lu, in %lu, after %lu; store %lu; last call said %d)\n", what, trial.cut[BEFORE],
+           trial.cut[IN], trial.cut[AFTER], trial.stores, ram.said.number);
     exit(1);
 }
 
@@ -553,13 +583,15 @@ static outcome live(void)
 /* The day, with what trial says; it starts again where the box went off. */
 static void live_through(void)
 {
-    int starts = 1;
+    int starts = 1, moment;
     while (live() == OFF) {
         check(starts++ < 3, "off again and again");
         printf("off at store %lu, last call said %d: starting again\n", trial.stores, ram.said.number);
         lose_power();
     }
-    check(trial.cut_before <= trial.stores && trial.cut_after <= trial.stores, "the day has no such store");
+    for (moment = 0; moment < MOMENTS; moment++) {
+        check(trial.cut[moment] <= trial.stores, "the day has no such store");
+    }
     printf("%d transactions, %lu stores\n", DAY, trial.stores);
     show();
 }
@@ -580,25 +612,24 @@ static void keep(kept *k)
 }
 
 /* Power on with what was kept, and with a cut at a store from here; 0 for none. */
-static void power_on(const kept *k, unsigned long cut_before, unsigned long cut_after)
+static void power_on(const kept *k, int moment, unsigned long store)
 {
     vault = k->vault;
     card = k->card;
     visible = k->visible;
     memset(&trial, 0, sizeof trial);
-    trial.cut_before = cut_before;
-    trial.cut_after = cut_after;
+    trial.cut[moment] = store;
     lose_power();
 }
 
-/* A second cut at every store of the start that follows a first one, before and after it; how many there were. */
+/* A second cut at every store of the start that follows a first one, before, in and after it; how many there were. */
 static unsigned long second_cuts(const kept *first)
 {
     unsigned long cuts = 0, store;
-    int after;
-    for (after = 0; after < 2; after++) {
+    int moment;
+    for (moment = 0; moment < MOMENTS; moment++) {
         for (store = 1;; store++) {
-            power_on(first, after ? 0 : store, after ? store : 0);
+            power_on(first, moment, store);
             if (start_right() == DONE) {
                 break;
             }
@@ -615,27 +646,26 @@ static void every_cut(void)
 {
     static kept first;
     unsigned long stores, store, second = 0;
-    int after;
+    int moment;
     new_box();
     lose_power();
     check(live() == DONE, "the day did not come to its end");
     stores = trial.stores;
     for (store = 1; store <= stores; store++) {
-        for (after = 0; after < 2; after++) {
+        for (moment = 0; moment < MOMENTS; moment++) {
             new_box();
             lose_power();
-            trial.cut_before = after ? 0 : store;
-            trial.cut_after = after ? store : 0;
+            trial.cut[moment] = store;
             check(live() == OFF, "the plug was not pulled");
             keep(&first);
             if (store % SECOND == 0) {
                 second += second_cuts(&first);
             }
-            power_on(&first, 0, 0);
+            power_on(&first, BEFORE, 0);
             check(live() == DONE, "the day did not come to its end after a cut");
         }
     }
-    printf("firmware: %lu stores, each cut before and after, and %lu second cuts: the table was right every time\n", stores,
+    printf("firmware: %lu stores, each cut before, in and after, and %lu second cuts: the table was right every time\n", stores,
            second);
 }
 
@@ -644,8 +674,9 @@ static const struct {
     const char *name;
     unsigned long *at;
 } options[] = {
-    {"--cut-before", &trial.cut_before},
-    {"--cut-after", &trial.cut_after},
+    {"--cut-before", &trial.cut[BEFORE]},
+    {"--cut-after", &trial.cut[AFTER]},
+    {"--cut-in", &trial.cut[IN]},
     {"--misread", &trial.misread},
     {"--spoil", &trial.spoil},
 };
@@ -676,7 +707,7 @@ int main(int argc, char **argv)
     make_day();
     new_box();
     if (!command_line(argc, argv)) {
-        fprintf(stderr, "usage: firmware [--cut-before N | --cut-after N | --misread N | --spoil N | --every]\n");
+        fprintf(stderr, "usage: firmware [--cut-before N | --cut-after N | --cut-in N | --misread N | --spoil N | --every]\n");
         return 2;
     }
     if (argc == 2) {

@@ -60,10 +60,12 @@ store=1
 while [ "$store" -le "$stores" ]; do
     with 1 --cut-before "$store"
     with 1 --cut-after "$store"
+    with 1 --cut-in "$store"
     store=$((store + 13))
 done
 with 1 --cut-before "$stores"
 with 1 --cut-after "$stores"
+with 1 --cut-in "$stores"
 for record in 1 2 75 120 121 150; do
     with 0 --misread "$record"
     with 1 --spoil "$record"
