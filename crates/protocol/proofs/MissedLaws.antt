@@ -1,28 +1,26 @@
 -- A log that is read to its end has every visible record above R whole: each number that a lane has reached above R was that of a record that
 -- opened, among the whole records of the log. And where the records are read to the end and a lane has not reached V, it is 13.
 -- Assumes nothing.
-use Prim.Native.Nat.{ℕ, zero, suc, _+_, _≤_, _<_}
+use Prim.Native.Nat.{ℕ, suc, _≤_, _<_}
 use mathlib.Core.Path.{_≡_, refl, sym, ap, _∙_}
-use mathlib.Core.Bool.{Bool, true, false, cond, not, _&&_}
+use mathlib.Core.Bool.{true, false}
 use mathlib.Core.Option.{Option, some, none}
 use mathlib.Core.List.{List, [], _∷_, List·Memᴰ, List·Memᴰ·head, List·Memᴰ·tail, List·Memᴰ·not-nil}
 use native.Mathlib.Omega.{arith}
 use native.Mathlib.Decide.{decLe}
-use lib.Dec.{ltb, eqb}
 use lib.ListN.{set, length, take, drop, length-set}
-use borrow.Author.Tests.{lt-ltb, ne-eqb}
 use Rattle.octets.specs.Lists.{at}
-use Rattle.table.specs.declared.Table.{Table}
 use Rattle.table.specs.Table.{lanes}
 use Rattle.sealed.specs.Aead.{Aead}
-use Rattle.sealed.specs.Record.{Opened, wholeLen, openRecord}
+use Rattle.sealed.specs.Record.{Opened, wholeLen}
 use Rattle.sealed.specs.Log.{recordAt, recordsTo, recordsIn}
 use Rattle.sealed.proofs.RecordTrip.{opens-legal}
 use Rattle.sealed.proofs.LogTrip.{at-opens, records-at}
 use Rattle.protocol.specs.declared.Vault.{Vault}
-use Rattle.protocol.specs.Replay.{Reading, Read, stopped, reading, passedOver, behind, goesOn, steps, missingFrom, orMissing, ended, replay}
+use Rattle.protocol.specs.Replay.{Reading, stopped, passedOver, behind, goesOn, missingFrom, orMissing, ended, replay}
 use Rattle.protocol.specs.Tail.{HasWhole, NoneIsMissed, MissedIs13, TailClaim}
 use Rattle.protocol.proofs.Lanes.{Put, same, other, put}
+use Rattle.protocol.proofs.MissingLaws.{Reached, none-missing, below-missing}
 use Rattle.protocol.proofs.TailLaws.{tail-passed, only-tails}
 use Rattle.protocol.proofs.ReadingLaws.{passing, entering, none-left, kept-replay}
 
@@ -82,32 +80,18 @@ none-missed a x t log g rlen e lane number inside above upto =
 
 -- ---- as 13
 
--- a lane that has not reached V is found, or a lower one
-found : (n from lane : ℕ) (x : Vault) (last : List ℕ) → from ≤ lane → lane < from + n → at (x .r) lane < at (x .v) lane → (at last lane ≡ at (x .v) lane → ⊥)
-    → (lowest : ℕ) × (lowest ≤ lane) × (missingFrom n from x last ≡ some lowest)
-unfolding missingFrom
-found zero from lane x last lo hi h ne = absurd (omega arith)
-found (suc n) from lane x last lo hi h ne =
-    go (ltb (at (x .r) from) (at (x .v) from) && not (eqb (at last from) (at (x .v) from))) refl (λ up. found n (suc from) lane x last up (omega arith) h ne)
-  where
-    here : from ≡ lane → (ltb (at (x .r) from) (at (x .v) from) && not (eqb (at last from) (at (x .v) from))) ≡ true
-    here e = rw (e, lt-ltb (at (x .r) lane) (at (x .v) lane) h, ne-eqb (at last lane) (at (x .v) lane) ne)
-
-    go : (b : Bool) → (ltb (at (x .r) from) (at (x .v) from) && not (eqb (at last from) (at (x .v) from))) ≡ b
-        → (suc from ≤ lane → (lowest : ℕ) × (lowest ≤ lane) × (missingFrom n (suc from) x last ≡ some lowest))
-        → (lowest : ℕ) × (lowest ≤ lane) × (cond b (some from) (missingFrom n (suc from) x last) ≡ some lowest)
-    go true e ih = (from, lo, refl)
-    go false e ih = ih (which (decLe (suc from) lane))
-      where
-        which : Dec (suc from ≤ lane) → suc from ≤ lane
-        which (yes p) = p
-        which (no p) = let z : from ≡ lane = omega arith in let y = here z in let w : _≡_ {A = ℕ} 0 1 = cc in absurd (omega arith)
-
 pub missed-is-13 : MissedIs13
 unfolding replay ended orMissing
-missed-is-13 a x t log g e lane inside h ne =
-    let f = found lanes 0 lane x (g .last) (omega arith) (omega arith) h ne in
-    (f .0, f .1, rw (e, f .2))
+missed-is-13 a x t log g e lane inside h ne = go (missingFrom lanes 0 x (g .last)) refl
+  where
+    go : (o : Option ℕ) → missingFrom lanes 0 x (g .last) ≡ o
+        → (lowest : ℕ) × (lowest ≤ lane) × ((l : ℕ) → l < lowest → Reached x (g .last) l) × (replay a x t log ≡ stopped 13 (lowest ∷ []))
+    go none q = absurd (ne (none-missing x (g .last) q lane inside h))
+    go (some m) q = (m, most (decLe m lane), below-missing x (g .last) m q, rw (e, q))
+      where
+        most : Dec (m ≤ lane) → m ≤ lane
+        most (yes p) = p
+        most (no p) = absurd (ne (below-missing x (g .last) m q lane (omega arith) h))
 
 -- ---- CR 4, OF THE LOG RULES
 

@@ -41,6 +41,11 @@ module _ (x : Vault) (last : List ℕ) where
       go true q t = eqb-true (at last l) (at (x .v) l) q
       go false q t = let z : _≡_ {A = ℕ} 0 1 = cc in absurd (omega arith)
 
+  -- a lane is one that is not missing, or above it
+  here-or-above : (lane l : ℕ) → short lane ≡ false → (suc lane ≤ l → Reached l) → (lane ≡ l) ⊎ (lane < l) → Reached l
+  here-or-above lane l s k (inl q) = subst Reached q (short-reached lane s)
+  here-or-above lane l s k (inr q) = k q
+
   none-by : (n lane : ℕ) → ((l : ℕ) → lane ≤ l → l < lane + n → Reached l) → missingFrom n lane x last ≡ none
   unfolding missingFrom short
   none-by zero lane h = refl
@@ -51,21 +56,30 @@ module _ (x : Vault) (last : List ℕ) where
   by-none zero lane e l a b = absurd (omega arith)
   by-none (suc n) lane e l a b = go (short lane) refl e (λ f c. by-none n (suc lane) f l c (omega arith))
     where
-      later : short lane ≡ false → (suc lane ≤ l → Reached l) → (lane ≡ l) ⊎ (lane < l) → Reached l
-      later s k (inl q) = subst Reached q (short-reached lane s)
-      later s k (inr q) = k q
-
       go : (b : Bool) → short lane ≡ b → cond b (some lane) (missingFrom n (suc lane) x last) ≡ none → (missingFrom n (suc lane) x last ≡ none → suc lane ≤ l → Reached l) → Reached l
       go true s f k = let z : _≡_ {A = ℕ} 0 1 = cc in absurd (omega arith)
-      go false s f k = later s (k f) (eq-or-lt-of-le a)
+      go false s f k = here-or-above lane l s (k f) (eq-or-lt-of-le a)
+
+  by-some : (n lane m : ℕ) → missingFrom n lane x last ≡ some m → (l : ℕ) → lane ≤ l → l < m → Reached l
+  unfolding missingFrom short
+  by-some zero lane m e l a b = let z : _≡_ {A = ℕ} 0 1 = cc in absurd (omega arith)
+  by-some (suc n) lane m e l a b = go (short lane) refl e (λ f c. by-some n (suc lane) m f l c b)
+    where
+      go : (b : Bool) → short lane ≡ b → cond b (some lane) (missingFrom n (suc lane) x last) ≡ some m → (missingFrom n (suc lane) x last ≡ some m → suc lane ≤ l → Reached l) → Reached l
+      go true s f k = let z : lane ≡ m = cc in absurd (omega arith)
+      go false s f k = here-or-above lane l s (k f) (eq-or-lt-of-le a)
 
   -- where all lanes have reached V, none is missing
   missing-none : ((l : ℕ) → l < lanes → Reached l) → missingFrom lanes 0 x last ≡ none
   missing-none h = none-by lanes 0 (λ l a b. h l (omega arith))
 
   -- and where none is missing, all have
-  none-missing : missingFrom lanes 0 x last ≡ none → (l : ℕ) → l < lanes → Reached l
+  pub none-missing : missingFrom lanes 0 x last ≡ none → (l : ℕ) → l < lanes → Reached l
   none-missing e l h = by-none lanes 0 e l (omega arith) (omega arith)
+
+  -- where one is, all below it have
+  pub below-missing : (m : ℕ) → missingFrom lanes 0 x last ≡ some m → (l : ℕ) → l < m → Reached l
+  below-missing m e l h = by-some lanes 0 m e l (omega arith) h
 
 -- where each lane has reached V the reading stands
 pub reached-ends : (x : Vault) (g : Reading) → ((l : ℕ) → l < lanes → Reached x (g .last) l) → ended x (reading g) ≡ reading g

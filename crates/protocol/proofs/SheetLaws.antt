@@ -10,7 +10,7 @@ use mathlib.Core.Logic.{_⊎_, inl, inr}
 use mathlib.Core.Option.{some}
 use native.Mathlib.Omega.{arith}
 use lib.Dec.{leb, ltb}
-use lib.ListN.{length, take, replicate, getD, length-map, length-take, length-append, List·getD-eq-default}
+use lib.ListN.{length, replicate, getD, length-map, length-take, length-append, List·getD-eq-default}
 use borrow.Author.Tests.{ltb-true, ltb-false, leb-true, le-ltb}
 use Rattle.octets.specs.Lists.{at}
 use Rattle.octets.specs.Little.{little, littleBytes}

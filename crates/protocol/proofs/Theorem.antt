@@ -43,7 +43,7 @@ use Rattle.protocol.proofs.Walks.{walk-recover, past-refuse, at-refuse}
 use Rattle.protocol.proofs.Basis.{Writable, bytesOf, begunBytes, size, fileOf, file-opens, empty-file}
 use Rattle.protocol.proofs.Latest.{In, Full}
 use Rattle.protocol.proofs.BookLaws.{full-latest, latest-one}
-use Rattle.protocol.proofs.LaidLaws.{laidOut, AllWritable, laid-length, records-laid, records-begun, records-one}
+use Rattle.protocol.proofs.LaidLaws.{laidOut, laid-length, records-laid, records-begun, records-one}
 use Rattle.protocol.proofs.Card.{Spot, recsOf, mem-recs}
 use Rattle.protocol.proofs.Faith.{read-faithful}
 use Rattle.protocol.proofs.Invariant.{Durable, vaultTo, Durably, Cold, LinkedAt, Linked, LinkedIf, Apart, Invariant, known, At}
