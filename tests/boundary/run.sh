@@ -1,6 +1,7 @@
 #!/bin/sh
 # Tests the library that C programs link, with its header: the header by itself, struct layouts, a session, what a refusal
-# leaves, what is left of a key, and, under valgrind, sealing in the lent buffer and what a host can hand over by mistake.
+# leaves, what is left of a key, and, under valgrind, sealing in the lent buffer, torn records and what a host can hand over by
+# mistake.
 # Run from the repository's top; the library is built before. The argument, if any, is how many rounds of bad input.
 set -eu
 
@@ -87,6 +88,11 @@ gcc -std=c11 -O2 -Wall -Wextra -Werror -Iinclude -o "$built/agree" "$here/agree.
 
 gcc -std=c11 -O2 -g -Wall -Wextra -Werror -Iinclude -o "$built/in_place" "$here/in_place.c" "$library"
 valgrind --error-exitcode=9 -q "$built/in_place"
+
+# ---- a torn last record ----
+
+gcc -std=c11 -O2 -g -Wall -Wextra -Werror -Iinclude -o "$built/torn" "$here/torn.c" "$library"
+valgrind --error-exitcode=9 -q "$built/torn"
 
 # ---- what is left of a key ----
 
