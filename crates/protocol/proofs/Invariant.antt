@@ -9,7 +9,7 @@
 -- (4) no file that was put out is of a version above S + 1; one of version S + 1 has the whole book's table; one of version S, and the empty
 --     table while S = 0, has the book's up to R (Filed);
 -- (5) the card's records are in order of position; in each lane their numbers go up by one to a top; where R < V they reach from R to V; they
---     are at most 9 · 128; a record that a cut left begun was put out, and has a number at most R or above V (Carded);
+--     are at most 9 · 128, with one that a cut left begun; that one was put out, and has a number at most R or above V (Carded);
 -- (6) the card has a file of version S where S > 0 (CardFiled).
 --
 -- Of a state, by its phase and the store that is due (Linked):
@@ -173,13 +173,18 @@ pub record Filed (s : ℕ) (r : List ℕ) (book : List Opened) (files : List Ope
 abbrev pub Passed : List ℕ → List ℕ → Opened → Type 0
 Passed v r y = (y .number ≤ at r (y .lane)) ⊎ (at v (y .lane) < y .number)
 
+-- how many records are begun: one, or none
+abbrev pub begunCount : Option Opened → ℕ
+begunCount none = 0
+begunCount (some y) = 1
+
 pub record Carded (v r : List ℕ) (sealed : List Opened) (spots : List Spot) (begun : Option Opened) : Type 0 where
   pub top : ℕ → ℕ
   pub consec : Consec top spots
   pub reach : (l : ℕ) → at r l < at v l → (at v l ≤ top l) × (top l ≤ at r l + cnt l spots)
   pub known : (p : Spot) → SpotIn spots p → In sealed (p .rec)
   pub rising : Rising spots
-  pub few : length spots ≤ (pointsMax + 1) * listed
+  pub few : length spots + begunCount begun ≤ (pointsMax + 1) * listed
   pub begun-known : (y : Opened) → begun ≡ some y → In sealed y
   pub begun-passed : (y : Opened) → begun ≡ some y → Passed v r y
 

@@ -1,6 +1,6 @@
 -- Accept, Seal and Commit keep the invariant. While a record is due, what is said of the card is said of it with that record behind.
 -- Assumes nothing.
-use Prim.Native.Nat.{ℕ, suc, _+_, _-_, _≤_, _<_, pred}
+use Prim.Native.Nat.{ℕ, suc, _+_, _-_, _≤_, _<_, pred, _*_}
 use mathlib.Core.Path.{_≡_, refl, sym, ap, subst, subst₂, _∙_}
 use mathlib.Core.Bool.{Bool, true, false, not, _&&_}
 use mathlib.Core.Option.{Option, none, some}
@@ -19,7 +19,7 @@ use Rattle.table.specs.Table.{lanes}
 use Rattle.sealed.specs.Aead.{aesGcm}
 use Rattle.sealed.specs.Record.{Opened, recordBytes, openRecord}
 use Rattle.protocol.specs.Vaults.{counterMax}
-use Rattle.protocol.specs.States.{listed, valid, serving, heldText, withVault}
+use Rattle.protocol.specs.States.{listed, valid, serving, heldText, withVault, pointsMax}
 use Rattle.protocol.specs.Accept.{tooLow, listedMore, holding, accepted, accept, isRecord, heldRecord, holds, seal}
 use Rattle.protocol.specs.Commit.{committed, outOfTurn, commitOpened, commit}
 use Rattle.protocol.specs.Point.{Mark, marksOf}
@@ -166,11 +166,13 @@ module _ (key : List ℕ) where
       let r = heldOpened c in
       let sl = sealed-add {w = c .vault .w} r (omega arith) (record { fine = h .fine; bytes = h .bytes; lane = h .lane; number = i .lanes .lane (c .held .lane) .most; epoch = i .nums .e≤; size = refl }) (h .newest) (i .sealed) in
       let below : at (c .vault .v) (c .held .lane) < at (c .vault .w) (c .held .lane) = not-seen c d i h (decLt (at (c .vault .v) (c .held .lane)) (at (c .vault .w) (c .held .lane))) in
+      let n = length-append (d .spots) (heldSpot c ∷ []) in
+      let few : length (d .spots) + 1 ≤ (pointsMax + 1) * listed = let a = sv .total in let b = sv .eight in let f = sv .few in omega arith in
       record {
         puts = (c .held .position, refl, held-is c (s .key-is));
         rises = tt;
         met = s .clean;
-        now = record { lanes = i .lanes; nums = i .nums; sealed = sl; book = book-sealed r (i .book); files = i .files; card = card-begun r below (i .card); kept = i .kept };
+        now = record { lanes = i .lanes; nums = i .nums; sealed = sl; book = book-sealed r (i .book); files = i .files; card = card-begun r below few (i .card); kept = i .kept };
         then = record {
           lanes = i .lanes;
           nums = i .nums;

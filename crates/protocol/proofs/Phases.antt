@@ -1,18 +1,19 @@
 -- The tie of a state in service.
 -- Assumes nothing.
-use Prim.Native.Nat.{ℕ, _+_}
+use Prim.Native.Nat.{ℕ, _+_, _*_, _≤_}
 use mathlib.Core.Path.{_≡_, refl, sym, subst, subst₂, _∙_}
 use mathlib.Core.Bool.{true, false, not, _&&_}
 use mathlib.Core.Option.{Option, none}
 use mathlib.Core.List.{List}
 use native.Mathlib.Omega.{arith}
 use borrow.Author.Tests.{not-false}
+use lib.ListN.{length}
 use Rattle.octets.specs.Lists.{at}
 use Rattle.octets.proofs.BoolLaws.{and-left, and-right}
 use Rattle.table.proofs.OrderLaws.{clash}
 use Rattle.sealed.specs.Record.{Opened}
 use Rattle.sealed.specs.Checkpoint.{OpenedFile}
-use Rattle.protocol.specs.States.{valid, serving, isNothing, ready}
+use Rattle.protocol.specs.States.{valid, serving, isNothing, ready, listed, pointsMax}
 use Rattle.protocol.specs.Accept.{isRecord}
 use Rattle.protocol.specs.Point.{Mark}
 use Rattle.protocol.specs.declared.Point.{Point}
@@ -24,19 +25,19 @@ use Rattle.protocol.specs.declared.Due.the-variants as D
 use Rattle.protocol.proofs.DueLaws.{is-nothing, is-serving}
 use Rattle.protocol.proofs.Latest.{In}
 use Rattle.protocol.proofs.Card.{Spot, cnt}
-use Rattle.protocol.proofs.Invariant.{Durable, SpotIn, Lanes, Carded, Serving, Service, LinkedAt, Linked}
+use Rattle.protocol.proofs.Invariant.{Durable, SpotIn, Lanes, Carded, Serving, Service, LinkedAt, Linked, begunCount}
 use Rattle.protocol.proofs.StoreLaws.{no-begun}
 
 -- the card's records from what is known in service
 pub card-of : {w v r : List ℕ} {s : ℕ} {ms : List Mark} {ps : List Point} {fl nx : ℕ} {b : List Opened} {fs : List OpenedFile} {cs : List Spot} (sealed : List Opened)
     → Lanes w v r → Serving w v r s ms ps fl nx b fs cs → ((l : ℕ) → at r l + cnt l cs ≡ at w l) → ((p : Spot) → SpotIn cs p → In sealed (p .rec)) → {o : Option Opened} → o ≡ none → Carded v r sealed cs o
-card-of {w = w} sealed dl sv ex kn cl = record {
+card-of {w = w} {cs = cs} sealed dl sv ex kn cl = record {
   top = at w;
   consec = sv .consec;
   reach = λ l h. (let a = dl .lane l .seen in omega arith, let a = ex l in omega arith);
   known = kn;
   rising = sv .rising;
-  few = let a = sv .total in let b = sv .eight in let c = sv .few in omega arith;
+  few = subst (λ (o : Option Opened). length cs + begunCount o ≤ (pointsMax + 1) * listed) (sym cl) (let a = sv .total in let b = sv .eight in let c = sv .few in omega arith);
   begun-known = λ b e. no-begun b (sym cl ∙ e);
   begun-passed = λ b e. no-begun b (sym cl ∙ e);
 }

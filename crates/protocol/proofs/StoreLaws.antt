@@ -1,7 +1,7 @@
 -- How each invariant takes each store: what it still says where one vault number rises, a record or a file was put out, a record becomes
 -- visible, or the card changes.
 -- Assumes nothing.
-use Prim.Native.Nat.{ℕ, suc, _+_, _-_, _≤_, _<_}
+use Prim.Native.Nat.{ℕ, suc, _+_, _-_, _≤_, _<_, _*_}
 use mathlib.Core.Path.{_≡_, refl, sym, ap, subst, _∙_}
 use mathlib.Core.Option.{Option, none, some}
 use mathlib.Core.Logic.{_⊎_, inl, inr}
@@ -13,6 +13,7 @@ use Rattle.octets.specs.Lists.{at}
 use Rattle.table.specs.Table.{lanes}
 use Rattle.sealed.specs.Record.{Opened}
 use Rattle.sealed.specs.Checkpoint.{OpenedFile}
+use Rattle.protocol.specs.States.{listed, pointsMax}
 use Rattle.protocol.specs.Vaults.{counterMax}
 use Rattle.protocol.proofs.Basis.{Writable, FileWritable}
 use Rattle.protocol.proofs.VaultLaws.{LaneFine}
@@ -171,8 +172,8 @@ pub card-sealed : {v r : List ℕ} {s : List Opened} {c : List Spot} {o : Option
 card-sealed y d = record { top = d .top; consec = d .consec; reach = d .reach; known = λ p m. List·Memᴰ·tail (d .known p m); rising = d .rising; few = d .few; begun-known = λ b e. List·Memᴰ·tail (d .begun-known b e); begun-passed = d .begun-passed }
 
 -- a cut leaves the record that was put out last
-pub card-begun : {v r : List ℕ} {s : List Opened} {c : List Spot} {o : Option Opened} (y : Opened) → at v (y .lane) < y .number → Carded v r s c o → Carded v r (y ∷ s) c (some y)
-card-begun {v} {r} {s} y h d = record { top = d .top; consec = d .consec; reach = d .reach; known = λ p m. List·Memᴰ·tail (d .known p m); rising = d .rising; few = d .few; begun-known = λ b e. List·Memᴰ·head (one b e); begun-passed = λ b e. subst (Passed v r) (sym (one b e)) (inr h) }
+pub card-begun : {v r : List ℕ} {s : List Opened} {c : List Spot} {o : Option Opened} (y : Opened) → at v (y .lane) < y .number → length c + 1 ≤ (pointsMax + 1) * listed → Carded v r s c o → Carded v r (y ∷ s) c (some y)
+card-begun {v} {r} {s} y h few d = record { top = d .top; consec = d .consec; reach = d .reach; known = λ p m. List·Memᴰ·tail (d .known p m); rising = d .rising; few = few; begun-known = λ b e. List·Memᴰ·head (one b e); begun-passed = λ b e. subst (Passed v r) (sym (one b e)) (inr h) }
   where
     one : (b : Opened) → _≡_ {A = Option Opened} (some y) (some b) → b ≡ y
     one b e = cc

@@ -1,6 +1,6 @@
 -- Demand 3: since every list keeps the invariants, the table of an accepted recovery is the book's, and a faithful card is taken.
 -- Assumes nothing.
-use Prim.Native.Nat.{ℕ, zero, suc, _+_, _-_, _≤_, _<_}
+use Prim.Native.Nat.{ℕ, zero, suc, _+_, _-_, _≤_, _<_, _*_}
 use mathlib.Core.Path.{_≡_, refl, sym, ap, ap₂, subst, _∙_}
 use mathlib.Core.Bool.{Bool, true, false, cond, _&&_}
 use mathlib.Core.Option.{Option, none, some}
@@ -46,7 +46,7 @@ use Rattle.protocol.proofs.BookLaws.{full-latest, latest-one}
 use Rattle.protocol.proofs.LaidLaws.{laidOut, laid-length, records-laid, records-begun, records-one}
 use Rattle.protocol.proofs.Card.{Spot, recsOf, mem-recs}
 use Rattle.protocol.proofs.Faith.{read-faithful}
-use Rattle.protocol.proofs.Invariant.{Durable, vaultTo, Durably, Cold, LinkedAt, Linked, LinkedIf, Apart, Invariant, known, At}
+use Rattle.protocol.proofs.Invariant.{Durable, vaultTo, begunCount, Durably, Cold, LinkedAt, Linked, LinkedIf, Apart, Invariant, known, At}
 use Rattle.protocol.proofs.TallyLaws.{recovery-tally}
 use Rattle.protocol.proofs.ServiceLaws.{vault-ok, accepts, seals, commits, points, keeps, counts, nine, three}
 use Rattle.protocol.proofs.Apart.{mem-map, map-mem, faithful-log}
@@ -141,7 +141,7 @@ module _ (key : List ℕ) where
   unfolding valid
   cold-valid c v k = and-both (and-both (and-both v (le-leb (c .journal .count) listed (omega (arith, k .listed-none)))) (le-leb (c .points .count) pointsMax (omega (arith, k .pointed-none)))) (rw (k .due))
 
-  begun-short : (o : Option Opened) (k : ℕ) → ((y : Opened) → o ≡ some y → Writable y) → length (take k (begunBytes key o)) ≤ maxText + frameLen
+  begun-short : (o : Option Opened) (k : ℕ) → ((y : Opened) → o ≡ some y → Writable y) → length (take k (begunBytes key o)) ≤ (maxText + frameLen) * begunCount o
   begun-short none k w = let l = length-take {A = ℕ} k [] in omega arith
   begun-short (some r) k w = let l = length-take k (bytesOf key r) in let z = size key r (w r refl) .1 in omega arith
 
@@ -267,7 +267,7 @@ module _ (key : List ℕ) where
     claims long = record { table-is-the-books = safe; latest-is-one = one; faithful-card-is-taken = live; load-is-taken = loads long; card-has-a-file = files; faithful-card-is-honest = honest }
 
 -- the longest log, in figures
-pub longest-is : longestLog ≡ 202928
+pub longest-is : longestLog ≡ 202752
 longest-is = refl
 
 -- ---- DEMAND 3

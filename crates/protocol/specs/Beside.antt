@@ -58,9 +58,9 @@ NotLower x S.File = Unit {0}
 NotLower x (S.Delete p) = Unit {0}
 NotLower x S.Empty = Unit {0}
 
--- 128 records from each of 8 points on and 128 before the first, and one that a cut left, each of the longest
+-- 128 records from each of 8 points on and 128 before the first, each of the longest
 abbrev pub longestLog : ℕ
-longestLog = suc ((pointsMax + 1) * listed) * (maxText + frameLen)
+longestLog = (pointsMax + 1) * listed * (maxText + frameLen)
 
 -- a record on the card below a position has a number above V of its lane
 unfoldable pub unseenOn : ℕ → List ℕ → List Placed → Bool
@@ -120,7 +120,7 @@ forgotten left w = record {
 module _ (key : List ℕ) where
   -- ---- the vault and the card
 
-  -- a faithful log is at most as long as the longest: 202,928 of 262,144 bytes
+  -- a faithful log is at most as long as the longest, 202,752 of 262,144 bytes, with what it shows of a record that a cut left
   abbrev pub LogIsShort : Type 0
   LogIsShort = (es : List Event) → Listed key es → (k : ℕ) → length (faithfulLog (settled (after key es) .card) k) ≤ longestLog
 
