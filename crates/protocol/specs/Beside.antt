@@ -1,6 +1,6 @@
 -- What is said beside demand 3, after any list that keeps to the premises: that a faithful log is short, where a card may show the beginning of a
--- record, that the vault's numbers only rise, which files may go, the stores of the longer operations, and 01's sentences on a collector in service. The proofs are in proofs/ServiceLaws.antt,
--- RiseLaws, ForgetLaws and Theorem.
+-- record, that the vault's numbers only rise, which files may go, the stores of the longer operations, and 01's sentences on a collector in
+-- service. The proofs are in proofs/ServiceLaws.antt, BegunLaws, RiseLaws, ForgetLaws and Theorem.
 -- Assumes nothing.
 use Prim.Native.Nat.{ℕ, suc, _+_, _*_, _≤_, _<_}
 use mathlib.Core.Path.{_≡_}

@@ -1,5 +1,6 @@
 -- 01, Bench sheet: "Marked cases (M), lane 0 unless named". M1 to M12 as one table: for each case what the definitions give, and what 01 says.
 -- A call's answer stands as 01's number, and 0 where the call is taken. The records are sealed ones, under any key. The theorem over the table is in proofs/SheetLaws.antt.
+-- Behind them 02's cases of a torn last record (CR 4), with the values that 01 has returned with a number.
 -- Assumes nothing.
 use Prim.Native.Nat.{ℕ, zero, suc, _+_, _-_, _^_}
 use mathlib.Core.Path.{_≡_}

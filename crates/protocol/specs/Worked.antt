@@ -1,8 +1,9 @@
--- Two lists of events, for any key. In both a new collector is put in service, takes one transaction and makes it visible.
+-- Three lists of events, for any key. In each a new collector is put in service and takes one transaction; in two it makes it visible.
 -- events: it is cut and loaded again. A cold collector then stands there with one visible record above R, and is handed four cards: the honest
 -- one, and three that are not.
 -- wholeLife: all eight calls are taken. The record goes into a checkpoint and is truncated; a point is refused; a cut comes with its store done
 -- and one with its store not done; the second breaks a recovery, and the next recovery goes to its end by 24 stores.
+-- tornEvents: a cut comes while the record is written, and the card then shows any beginning of it.
 -- Assumes nothing.
 use Prim.Native.Nat.{ℕ, _+_}
 use mathlib.Core.Bool.{true, false}
