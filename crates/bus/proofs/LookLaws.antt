@@ -1,8 +1,8 @@
 -- What the search meets: each answer from the tests that lead to it, and how far a step goes.
 -- Assumes nothing.
 use Prim.Native.Nat.{ℕ, _+_, _<_, _≤_}
-use mathlib.Core.Path.{_≡_, refl, sym, ap, ap₂, _∙_}
-use mathlib.Core.Bool.{Bool, true, false, cond, _&&_, _||_}
+use mathlib.Core.Path.{_≡_, sym, ap, ap₂, _∙_}
+use mathlib.Core.Bool.{true, false, cond, _&&_, _||_}
 use mathlib.Core.List.{List}
 use native.Mathlib.Omega.{arith}
 use lib.Dec.{ltb, eqb}
@@ -13,13 +13,9 @@ use Rattle.bus.specs.declared.DataLen.{DataLen}
 use Rattle.bus.specs.declared.DataLen.the-variants as D
 use Rattle.bus.specs.declared.Met.{Met}
 use Rattle.bus.specs.declared.Met.the-variants as M
-use Rattle.octets.proofs.BoolLaws.{or-right}
+use Rattle.octets.proofs.BoolLaws.{or-right, or-true}
 use Rattle.bus.specs.Records.{filler, wantedDif, dataLen, fieldLen, difOf, vifOf, unusableVif, recordLen, wanted, lookRecord, look, dataPlace}
 use Rattle.bus.proofs.FieldLaws.{cond-by, field-some}
-
-or-true : (b : Bool) → b || true ≡ true
-or-true true = refl
-or-true false = refl
 
 module _ (unit : ℕ) (s : List ℕ) where
   -- nothing is left

@@ -17,6 +17,10 @@ pub and-false : (p : Bool) → p && false ≡ false
 and-false true = refl
 and-false false = refl
 
+pub or-true : (p : Bool) → (p || true) ≡ true
+or-true true = refl
+or-true false = refl
+
 -- both hold
 pub and-left : (p q : Bool) → p && q ≡ true → p ≡ true
 and-left true q e = refl

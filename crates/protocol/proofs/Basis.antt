@@ -6,6 +6,7 @@ use mathlib.Core.Path.{_≡_, sym, ap, _∙_}
 use mathlib.Core.Bool.{true}
 use mathlib.Core.List.{List, []}
 use mathlib.Core.Option.{Option, some, none}
+use mathlib.Core.Logic.{_⊎_}
 use native.Mathlib.Omega.{arith}
 use lib.ListN.{length}
 use Rattle.octets.specs.Lists.{at}
@@ -31,6 +32,10 @@ write r m = written (r .text) (r .lane) (r .number) m
 -- the table after the transaction of a record
 abbrev pub withRecord : Table → Opened → Table
 withRecord t r = entered t (r .text) (r .lane) (r .number)
+
+-- a record that the log rules pass over: its number is at most R or above V of its lane
+abbrev pub Passed : List ℕ → List ℕ → Opened → Type 0
+Passed v r y = (y .number ≤ at r (y .lane)) ⊎ (at v (y .lane) < y .number)
 
 -- a record that Seal can put out
 pub record Writable (r : Opened) : Type 0 where

@@ -80,9 +80,9 @@ module _ (key : List ℕ) where
   pub leaves : (w : World) → Leaves key w
   unfolding next broken done cardAfter
   leaves w = record {
-    writing = λ p e. cut-leaves (w .pending) (w .lasting) p e;
-    else = λ h. cut-else (w .pending .store) (w .pending .bytes) (w .lasting .card) h;
-    until = λ h. done-else (w .pending .store) (w .pending .bytes) (w .lasting .card) h;
+    record-cut = λ p e. cut-leaves (w .pending) (w .lasting) p e;
+    other-cut = λ h. cut-else (w .pending .store) (w .pending .bytes) (w .lasting .card) h;
+    other-done = λ h. done-else (w .pending .store) (w .pending .bytes) (w .lasting .card) h;
     emptied = λ e. ap (λ (st : Store). cardAfter st (w .pending .bytes) (w .lasting .card) .beginning) e;
     no-file = cut-files (w .pending .store) (w .pending .bytes) (w .lasting .card);
   }

@@ -6,7 +6,7 @@ use Prim.Native.Nat.{ℕ, suc, _+_, _-_, _≤_, _<_, min, max}
 use mathlib.Core.Path.{_≡_, refl, sym, ap, subst, _∙_}
 use mathlib.Core.Bool.{Bool, true, false, cond, not, _||_}
 use mathlib.Core.Option.{Option, none, some}
-use mathlib.Core.Logic.{_⊎_, inl, inr}
+use mathlib.Core.Logic.{inl, inr}
 use mathlib.Core.List.{List, [], _∷_, _++_, List·Memᴰ, List·Memᴰ·head, List·Memᴰ·tail}
 use native.Mathlib.Omega.{arith}
 use native.Mathlib.Decide.{ℕ-discrete, decLt}
@@ -15,22 +15,18 @@ use lib.ListN.{set, length, take, length-set}
 use lib.Seq.{getD-set-same, getD-set-other, take-nil, take-all}
 use borrow.Author.Tests.{ltb-true, leb-true, ltb-false, leb-false, eq-eqb, le-leb, lt-ltb}
 use Rattle.octets.specs.Lists.{at}
-use Rattle.octets.proofs.BoolLaws.{or-left, or-right}
+use Rattle.octets.proofs.BoolLaws.{or-left, or-right, or-true}
 use Rattle.table.specs.declared.Table.{Table}
 use Rattle.table.specs.Table.{lanes, entered}
 use Rattle.table.proofs.OrderLaws.{clash}
 use Rattle.sealed.specs.Aead.{aesGcm}
 use Rattle.sealed.specs.Record.{Opened}
-use Rattle.protocol.specs.Replay.{Reading, Read, reading, passedOver, orStop, behind, stepOpened, ended, replay}
+use Rattle.protocol.specs.Replay.{Reading, Read, reading, passedOver, orStop, behind, stepOpened, ended, replay, atFirst}
 use Rattle.protocol.specs.declared.Vault.{Vault}
-use Rattle.protocol.proofs.Basis.{Writable, bytesOf, begunBytes}
+use Rattle.protocol.proofs.Basis.{Writable, bytesOf, begunBytes, Passed}
 use Rattle.protocol.proofs.MissingLaws.{reached-ends}
-use Rattle.protocol.proofs.LaidLaws.{laidOut, goOn, follow, AllWritable, startAt, Comes, comes-none, comes-torn, comes-whole, replay-tail}
+use Rattle.protocol.proofs.LaidLaws.{laidOut, goOn, follow, AllWritable, Comes, comes-none, comes-torn, comes-whole, replay-tail}
 use Rattle.protocol.proofs.Card.{Spot, cnt, cnt-same, cnt-other, Consec, recsOf, mem-recs}
-
-or-true : (b : Bool) → (b || true) ≡ true
-or-true true = refl
-or-true false = refl
 
 module _ (key : List ℕ) (x : Vault) (c : ℕ → ℕ)
     (right : Opened → Type 0)
@@ -46,12 +42,12 @@ module _ (key : List ℕ) (x : Vault) (c : ℕ → ℕ)
     len : length last ≡ lanes
 
   -- a record passed over has a number at most R, or above V
-  no-turn : (r : Opened) → passedOver x r ≡ true → (r .number ≤ at (x .r) (r .lane)) ⊎ (at (x .v) (r .lane) < r .number)
+  no-turn : (r : Opened) → passedOver x r ≡ true → Passed (x .v) (x .r) r
   unfolding passedOver
   no-turn r e = side (leb (r .number) (at (x .r) (r .lane))) (ltb (at (x .v) (r .lane)) (r .number)) refl refl e
     where
       side : (a b : Bool) → leb (r .number) (at (x .r) (r .lane)) ≡ a → ltb (at (x .v) (r .lane)) (r .number) ≡ b → (a || b) ≡ true
-          → (r .number ≤ at (x .r) (r .lane)) ⊎ (at (x .v) (r .lane) < r .number)
+          → Passed (x .v) (x .r) r
       side true b u v e = inl (leb-true _ _ u)
       side false true u v e = inr (ltb-true _ _ v)
       side false false u v e = clash (sym e)
@@ -69,7 +65,7 @@ module _ (key : List ℕ) (x : Vault) (c : ℕ → ℕ)
   passed xs p last k i m = record { spot = λ l h. go l h (m .spot l h) (ℕ-discrete (p .rec .lane) l); len = m .len }
     where
       fin : (l : ℕ) → p .rec .lane ≡ l → at (x .r) l < at (x .v) l → at last l ≡ due (p ∷ xs) l → p .rec .number + cnt l xs ≡ c l → cnt l (p ∷ xs) ≡ suc (cnt l xs)
-          → (p .rec .number ≤ at (x .r) (p .rec .lane)) ⊎ (at (x .v) (p .rec .lane) < p .rec .number) → at last l ≡ due xs l
+          → Passed (x .v) (x .r) (p .rec) → at last l ≡ due xs l
       fin l d h s k q (inl a) = let b : p .rec .number ≤ at (x .r) l = subst (λ (j : ℕ). p .rec .number ≤ at (x .r) j) d a in omega arith
       fin l d h s k q (inr a) = let b : at (x .v) l < p .rec .number = subst (λ (j : ℕ). at (x .v) j < p .rec .number) d a in omega arith
 
@@ -132,7 +128,7 @@ module _ (key : List ℕ) (x : Vault) (c : ℕ → ℕ)
   abbrev Keeps : (Reading → Read) → Type 0
   Keeps f = (g : Reading) → (h : Reading) × (f g ≡ reading h) × (h .last ≡ g .last)
 
-  passes : (r : Opened) → (r .number ≤ at (x .r) (r .lane)) ⊎ (at (x .v) (r .lane) < r .number) → passedOver x r ≡ true
+  passes : (r : Opened) → Passed (x .v) (x .r) r → passedOver x r ≡ true
   unfolding passedOver
   passes r (inl h) = rw (le-leb (r .number) (at (x .r) (r .lane)) h)
   passes r (inr h) = rw (lt-ltb (at (x .v) (r .lane)) (r .number) h, or-true (leb (r .number) (at (x .r) (r .lane))))
@@ -143,7 +139,7 @@ module _ (key : List ℕ) (x : Vault) (c : ℕ → ℕ)
   keeps-passed r e g = (record { offset = behind g r; last = g .last; table = g .table }, rw e, refl)
 
   -- so does every beginning of a record that is passed over, the whole of it and none of it too
-  tail-of : (o : Option Opened) (k : ℕ) → ((y : Opened) → o ≡ some y → right y) → ((y : Opened) → o ≡ some y → (y .number ≤ at (x .r) (y .lane)) ⊎ (at (x .v) (y .lane) < y .number))
+  tail-of : (o : Option Opened) (k : ℕ) → ((y : Opened) → o ≡ some y → right y) → ((y : Opened) → o ≡ some y → Passed (x .v) (x .r) y)
       → (f : Reading → Read) × Comes key x (take k (begunBytes key o)) f × Keeps f
   tail-of none k h p = (reading, (λ front n g l e. rw (take-nil k) (comes-none key x front n g (omega arith) e)), λ g. (g, refl, refl))
   tail-of (some r) k h p = go (decLt k (length (bytesOf key r)))
@@ -159,12 +155,12 @@ module _ (key : List ℕ) (x : Vault) (c : ℕ → ℕ)
   -- The log of a card that kept faith is read to its end, and no lane is missing.
   pub read-faithful : (xs : List Spot) (t : Table) (o : Option Opened) (k : ℕ) → length (x .r) ≡ lanes → Consec c xs → ((p : Spot) → List·Memᴰ p xs → right (p .rec))
       → ((l : ℕ) → at (x .r) l < at (x .v) l → (at (x .v) l ≤ c l) × (c l ≤ at (x .r) l + cnt l xs))
-      → ((y : Opened) → o ≡ some y → right y) → ((y : Opened) → o ≡ some y → (y .number ≤ at (x .r) (y .lane)) ⊎ (at (x .v) (y .lane) < y .number))
+      → ((y : Opened) → o ≡ some y → right y) → ((y : Opened) → o ≡ some y → Passed (x .v) (x .r) y)
       → (g : Reading) × (replay (aesGcm key) x t (laidOut key (recsOf xs) ++ take k (begunBytes key o)) ≡ reading g)
   unfolding Ends cnt goOn
-  read-faithful xs t o k len con r reach known passed = go (reads xs (startAt x t) con r (record { spot = λ l h. let z = reach l h .1 in omega arith; len = len })) (tail-of o k known passed)
+  read-faithful xs t o k len con r reach known passed = go (reads xs (atFirst x t) con r (record { spot = λ l h. let z = reach l h .1 in omega arith; len = len })) (tail-of o k known passed)
     where
-      go : Ends (follow x (startAt x t) (recsOf xs)) → (f : Reading → Read) × Comes key x (take k (begunBytes key o)) f × Keeps f
+      go : Ends (follow x (atFirst x t) (recsOf xs)) → (f : Reading → Read) × Comes key x (take k (begunBytes key o)) f × Keeps f
           → (g : Reading) × (replay (aesGcm key) x t (laidOut key (recsOf xs) ++ take k (begunBytes key o)) ≡ reading g)
       go (g, e, m) (f, comes, keeps) =
           let w = keeps g in

@@ -23,7 +23,6 @@ use Prim.Native.Nat.{ℕ, suc, _+_, _-_, _*_, _≤_, _<_, pred}
 use mathlib.Core.Path.{_≡_}
 use mathlib.Core.Bool.{Bool, true, false, cond}
 use mathlib.Core.Option.{Option, none, some}
-use mathlib.Core.Logic.{_⊎_}
 use mathlib.Core.List.{List, [], _∷_, _++_, map, List·Memᴰ}
 use lib.ListN.{length}
 use Rattle.octets.specs.Lists.{at}
@@ -59,7 +58,7 @@ use Rattle.protocol.specs.declared.RecoverNumber.the-variants as M
 use Rattle.protocol.specs.declared.Store.{Store}
 use Rattle.protocol.specs.declared.Store.the-variants as S
 use Rattle.protocol.proofs.VaultLaws.{LaneFine}
-use Rattle.protocol.proofs.Basis.{Writable, FileWritable, bytesOf, begunBytes, fileOf}
+use Rattle.protocol.proofs.Basis.{Passed, Writable, FileWritable, bytesOf, begunBytes, fileOf}
 use Rattle.protocol.proofs.Latest.{In, Single, Full, Upto}
 use Rattle.protocol.proofs.Hostile.{Whole}
 use Rattle.protocol.proofs.Card.{Spot, spotsFrom, cnt, Consec, Rising, placedOf}
@@ -168,10 +167,6 @@ pub record Filed (s : ℕ) (r : List ℕ) (book : List Opened) (files : List Ope
   pub held : (f : OpenedFile) → FileIn files f → f .version ≡ s → Upto book r (f .table)
   pub fresh : s ≡ 0 → Upto book r emptyTable
   pub fine : (f : OpenedFile) → FileIn files f → FileWritable f
-
--- a record that the log rules pass over
-abbrev pub Passed : List ℕ → List ℕ → Opened → Type 0
-Passed v r y = (y .number ≤ at r (y .lane)) ⊎ (at v (y .lane) < y .number)
 
 -- how many records are begun: one, or none
 abbrev pub begunCount : Option Opened → ℕ

@@ -20,7 +20,7 @@ use Rattle.sealed.specs.Log.{recordAt, recordsTo, tornAt}
 use Rattle.sealed.proofs.LogTrip.{records-nil}
 use Rattle.sealed.proofs.TornLaws.{records-torn}
 use Rattle.protocol.specs.declared.Vault.{Vault}
-use Rattle.protocol.specs.Replay.{Reading, Read, stopped, reading, passedOver, orStop, behind, stepOpened, step, goesOn, stepOn, steps, ended, replay}
+use Rattle.protocol.specs.Replay.{Reading, Read, stopped, reading, passedOver, orStop, behind, stepOpened, step, goesOn, stepOn, steps, ended, replay, atFirst}
 use Rattle.protocol.proofs.MissingLaws.{Reached, ends-reached}
 
 -- behind a record that is passed over, and behind one that enters
@@ -29,10 +29,6 @@ passing g r = record { offset = behind g r; last = g .last; table = g .table }
 
 abbrev pub entering : Reading → Opened → Reading
 entering g r = record { offset = behind g r; last = set (g .last) (r .lane) (r .number); table = entered (g .table) (r .text) (r .lane) (r .number) }
-
--- at the first byte
-abbrev pub atFirst : Vault → Table → Reading
-atFirst x t = record { offset = 0; last = x .r; table = t }
 
 -- a record that is not passed over is above R and not above V
 not-passed : (x : Vault) (r : Opened) → passedOver x r ≡ false → (at (x .r) (r .lane) < r .number) × (r .number ≤ at (x .v) (r .lane))

@@ -3,9 +3,9 @@
 -- law that reading sealed records end to end is following them (LaidLaws). So no AES is computed here.
 -- Assumes nothing.
 use Prim.Native.Nat.{ℕ, _+_, _-_, _^_, _≤_, _<_}
-use mathlib.Core.Path.{_≡_, refl, ap, ap₂, _∙_}
+use mathlib.Core.Path.{_≡_, refl, ap, ap₂, _∙_, sym}
 use mathlib.Core.Bool.{Bool, true, false, _&&_}
-use mathlib.Core.List.{List, [], _∷_, _++_, map, List·Memᴰ, List·Memᴰ·not-nil, List·Memᴰ·cases-cons}
+use mathlib.Core.List.{List, [], _∷_, _++_, map, List·Memᴰ, List·Memᴰ·not-nil, List·Memᴰ·cases-cons, append-nil}
 use mathlib.Core.Logic.{_⊎_, inl, inr}
 use mathlib.Core.Option.{some}
 use native.Mathlib.Omega.{arith}
@@ -38,7 +38,7 @@ use Rattle.protocol.specs.Load.{loaded, load}
 use Rattle.protocol.specs.Accept.{tooLow, listedMore, holding, accepted, accept, holds, heldRecord, seal}
 use Rattle.protocol.specs.Commit.{committed, commitOpened, commit, outOfTurn}
 use Rattle.protocol.specs.Point.{point, pointed, pointsMore, journalOf, marksOf, marksTo, marksFrom, laneCount, unseenBelow, countsAt, pointAt}
-use Rattle.protocol.specs.Replay.{Reading, Read, stopped, reading, passedOver, orStop, behind, stepOpened, steps, missingFrom, orMissing, ended, replay}
+use Rattle.protocol.specs.Replay.{Reading, Read, stopped, reading, passedOver, orStop, behind, stepOpened, steps, missingFrom, orMissing, ended, replay, atFirst}
 use Rattle.protocol.specs.Recover.{logMax, spent, recovered, recoverRead, otherVersion, readFile, readFrom, recoverFirst, inService, recoverPhase, recover}
 use Rattle.protocol.specs.Sheet.{gives, Holds, number, display, valued, displays, fromTorn, begun, headed, someWrites, transaction, read, counted, vaultOf, acceptAt, commitSealed, visibleAt, logOf, fromLog, fromVersion, versioned, served, sealedOf, two, recordMax, sheet}
 use Rattle.protocol.specs.declared.Vault.{Vault}
@@ -46,7 +46,7 @@ use Rattle.protocol.specs.declared.State.{State}
 use Rattle.protocol.specs.declared.Due.the-variants as D
 use Rattle.protocol.specs.declared.Store.the-variants as S
 use Rattle.protocol.proofs.Basis.{Writable, file-opens}
-use Rattle.protocol.proofs.LaidLaws.{laidOut, goOn, follow, AllWritable, startAt, Comes, comes-torn, comes-left, comes-closed, replay-tail, replay-laid, laid-length}
+use Rattle.protocol.proofs.LaidLaws.{laidOut, goOn, follow, AllWritable, Comes, comes-torn, comes-left, comes-closed, replay-tail, laid-length, comes-none, go-reading}
 
 -- case n of the sheet gives what is expected
 abbrev Marked : List ℕ → ℕ → Type 0
@@ -128,25 +128,39 @@ module _ (key : List ℕ) where
 
   -- what the numbers of a log come to, from the empty table
   abbrev come : Vault → List ℕ → Read
-  come x ns = ended x (follow x (startAt x emptyTable) (map numbered ns))
+  come x ns = ended x (follow x (atFirst x emptyTable) (map numbered ns))
 
   recovers : (r v w : ℕ) (log : List ℕ) → vaultOk (vaultOf r v w) ≡ true → length log ≤ logMax
       → recover (loaded (vaultOf r v w) key) [] log fileLen ≡ recoverRead (loaded (vaultOf r v w) key) (replay (aesGcm key) (vaultOf r v w) emptyTable log)
   unfolding recover recoverPhase recoverFirst readFrom orStop refuse loaded valid spent vaultOf
   recovers r v w log h l = rw (h, le-ltb logMax (length log) l)
 
-  from-log : (r v w : ℕ) (ns : List ℕ) → length key ≡ 16 → vaultOk (vaultOf r v w) ≡ true → allFit ns ≡ true → length ns ≤ 4
-      → fromLog key r v w ns ≡ recoverRead (loaded (vaultOf r v w) key) (come (vaultOf r v w) ns)
-  unfolding fromLog
-  from-log r v w ns long h fit few =
+  -- what the numbers of a log and a tail come to
+  abbrev comeTo : Vault → List ℕ → (Reading → Read) → Read
+  comeTo x ns f = ended x (goOn (follow x (atFirst x emptyTable) (map numbered ns)) f)
+
+  from-torn : (r v w : ℕ) (ns tail : List ℕ) (f : Reading → Read) → length key ≡ 16 → vaultOk (vaultOf r v w) ≡ true → allFit ns ≡ true → length ns ≤ 4 → length tail ≤ recordMax → Comes key (vaultOf r v w) tail f
+      → fromTorn key r v w ns tail ≡ recoverRead (loaded (vaultOf r v w) key) (comeTo (vaultOf r v w) ns f)
+  unfolding fromTorn
+  from-torn r v w ns tail f long h fit few short c =
       let rs = map numbered ns in
       let x = vaultOf r v w in
       let all = all-writable ns fit in
       let l = laid-length key rs all in
       let m = length-map ns numbered in
-      ap₂ (λ (c : State) (log : List ℕ). recover c [] log fileLen) (loads x long h) (log-laid ns)
-      ∙ recovers r v w (laidOut key rs) h (omega arith)
-      ∙ ap (recoverRead (loaded x key)) (replay-laid key x emptyTable rs all)
+      let n = length-append (laidOut key rs) tail in
+      ap₂ (λ (d : State) (log : List ℕ). recover d [] (log ++ tail) fileLen) (loads x long h) (log-laid ns)
+      ∙ recovers r v w (laidOut key rs ++ tail) h (omega arith)
+      ∙ ap (recoverRead (loaded x key)) (replay-tail key x emptyTable rs tail f all c)
+
+  from-log : (r v w : ℕ) (ns : List ℕ) → length key ≡ 16 → vaultOk (vaultOf r v w) ≡ true → allFit ns ≡ true → length ns ≤ 4
+      → fromLog key r v w ns ≡ recoverRead (loaded (vaultOf r v w) key) (come (vaultOf r v w) ns)
+  unfolding fromLog fromTorn
+  from-log r v w ns long h fit few =
+      let x = vaultOf r v w in
+      ap (λ (log : List ℕ). recover (load x key .state) [] log fileLen) (sym (append-nil (logOf key ns)))
+      ∙ from-torn r v w ns [] reading long h fit few (omega arith) (comes-none key x)
+      ∙ ap (λ (d : Read). recoverRead (loaded x key) (ended x d)) (go-reading key (follow x (atFirst x emptyTable) (map numbered ns)))
 
   -- a case of M4 to M9
   by-log : (f : Answered → List ℕ) (r v w : ℕ) (ns expected : List ℕ) → length key ≡ 16 → vaultOk (vaultOf r v w) ≡ true → allFit ns ≡ true → length ns ≤ 4
@@ -167,27 +181,9 @@ module _ (key : List ℕ) where
 -- ---- CR 4
 
 module _ (key : List ℕ) where
-  -- what the numbers of a log and a tail come to
-  abbrev comeTo : Vault → List ℕ → (Reading → Read) → Read
-  comeTo x ns f = ended x (goOn (follow x (startAt x emptyTable) (map numbered ns)) f)
-
-  from-torn : (r v w : ℕ) (ns tail : List ℕ) (f : Reading → Read) → length key ≡ 16 → vaultOk (vaultOf r v w) ≡ true → allFit ns ≡ true → length ns ≤ 4 → length tail ≤ recordMax → Comes key (vaultOf r v w) tail f
-      → fromTorn key r v w ns tail ≡ recoverRead (loaded (vaultOf r v w) key) (comeTo (vaultOf r v w) ns f)
-  unfolding fromTorn
-  from-torn r v w ns tail f long h fit few short c =
-      let rs = map numbered ns in
-      let x = vaultOf r v w in
-      let all = all-writable ns fit in
-      let l = laid-length key rs all in
-      let m = length-map ns numbered in
-      let n = length-append (laidOut key rs) tail in
-      ap₂ (λ (d : State) (log : List ℕ). recover d [] (log ++ tail) fileLen) (loads key x long h) (log-laid key ns)
-      ∙ recovers key r v w (laidOut key rs ++ tail) h (omega arith)
-      ∙ ap (recoverRead (loaded x key)) (replay-tail key x emptyTable rs tail f all c)
-
   by-torn : (view : Answered → List ℕ) (r v w : ℕ) (ns tail : List ℕ) (f : Reading → Read) (expected : List ℕ) → length key ≡ 16 → vaultOk (vaultOf r v w) ≡ true → allFit ns ≡ true → length ns ≤ 4 → length tail ≤ recordMax
-      → Comes key (vaultOf r v w) tail f → view (recoverRead (loaded (vaultOf r v w) key) (comeTo (vaultOf r v w) ns f)) ≡ expected → view (fromTorn key r v w ns tail) ≡ expected
-  by-torn view r v w ns tail f expected long h fit few short c e = ap view (from-torn r v w ns tail f long h fit few short c) ∙ e
+      → Comes key (vaultOf r v w) tail f → view (recoverRead (loaded (vaultOf r v w) key) (comeTo key (vaultOf r v w) ns f)) ≡ expected → view (fromTorn key r v w ns tail) ≡ expected
+  by-torn view r v w ns tail f expected long h fit few short c e = ap view (from-torn key r v w ns tail f long h fit few short c) ∙ e
 
   -- 55 bytes of a record of 56
   begun-comes : (x : Vault) (n : ℕ) → fits n ≡ true → Comes key x (begun key 55 n) reading

@@ -15,12 +15,12 @@ use Rattle.sealed.specs.Record.{Opened}
 use Rattle.sealed.specs.Checkpoint.{OpenedFile}
 use Rattle.protocol.specs.States.{listed, pointsMax}
 use Rattle.protocol.specs.Vaults.{counterMax}
-use Rattle.protocol.proofs.Basis.{Writable, FileWritable}
+use Rattle.protocol.proofs.Basis.{Passed, Writable, FileWritable}
 use Rattle.protocol.proofs.VaultLaws.{LaneFine}
 use Rattle.protocol.proofs.Lanes.{Put, same, other, put}
 use Rattle.protocol.proofs.Latest.{In, Full, Upto, full-upto, upto-add}
 use Rattle.protocol.proofs.Card.{Spot}
-use Rattle.protocol.proofs.Invariant.{FileIn, Lanes, SealedOnce, Booked, Filed, Passed, Carded, CardFiled, HasNext, Stale, Caught}
+use Rattle.protocol.proofs.Invariant.{FileIn, Lanes, SealedOnce, Booked, Filed, Carded, CardFiled, HasNext, Stale, Caught}
 
 -- lanes
 pub lanes-w : {w v r : List ℕ} (l : ℕ) → l < lanes → at w l < counterMax → ((k : ℕ) → at r k ≤ at v k) → Lanes w v r → Lanes (set w l (suc (at w l))) v r

@@ -12,6 +12,7 @@ use lib.Dec.{leb, eqb}
 use lib.ListN.{set}
 use borrow.Author.Tests.{leb-true, eqb-true, le-leb, eq-eqb}
 use Rattle.octets.specs.Lists.{at}
+use Rattle.octets.proofs.BoolLaws.{or-true}
 use Rattle.octets.proofs.EveryLaws.{and-true, and-both, all-at, all-of}
 use Rattle.table.specs.Table.{lanes}
 use Rattle.protocol.specs.Vaults.{counterMax, laneOk, vaultOk, setV, setR, setE, setS, setN}
@@ -43,11 +44,7 @@ lane-past w v r h = go (leb r v) refl h
 
 past-lane : (w v r : ℕ) → (r ≤ v) ⊎ (r ≡ w) → (leb r v || eqb r w) ≡ true
 past-lane w v r (inl h) = rw (le-leb r v h)
-past-lane w v r (inr h) = or-true (leb r v) (eq-eqb r w h)
-  where
-    or-true : (a : Bool) {b : Bool} → b ≡ true → (a || b) ≡ true
-    or-true true e = refl
-    or-true false e = e
+past-lane w v r (inr h) = rw (eq-eqb r w h, or-true (leb r v))
 
 lane-fine : (w v r : ℕ) → laneOk w v r ≡ true → LaneFine w v r
 unfolding laneOk

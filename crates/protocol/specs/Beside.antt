@@ -129,9 +129,9 @@ module _ (key : List ℕ) where
   -- 02, CR 4, of any world: "a cut may leave any beginning of the record being written, at the end of the log. A faithful card may now show that,
   -- until an empty store is done, which drops it too." And no cut adds a file: "A torn checkpoint never counts as one of version S."
   pub record Leaves (w : World) : Type 0 where
-    pub writing : (p : ℕ) → w .pending .store ≡ S.Record p → next key w (cut false) .lasting .card .beginning ≡ w .pending .bytes
-    pub else : ((p : ℕ) → w .pending .store ≡ S.Record p → ⊥) → next key w (cut false) .lasting .card .beginning ≡ w .lasting .card .beginning
-    pub until : (w .pending .store ≡ S.Empty → ⊥) → settled w .card .beginning ≡ w .lasting .card .beginning
+    pub record-cut : (p : ℕ) → w .pending .store ≡ S.Record p → next key w (cut false) .lasting .card .beginning ≡ w .pending .bytes
+    pub other-cut : ((p : ℕ) → w .pending .store ≡ S.Record p → ⊥) → next key w (cut false) .lasting .card .beginning ≡ w .lasting .card .beginning
+    pub other-done : (w .pending .store ≡ S.Empty → ⊥) → settled w .card .beginning ≡ w .lasting .card .beginning
     pub emptied : w .pending .store ≡ S.Empty → settled w .card .beginning ≡ []
     pub no-file : next key w (cut false) .lasting .card .files ≡ w .lasting .card .files
 
