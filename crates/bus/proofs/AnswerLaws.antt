@@ -16,7 +16,9 @@ use Rattle.transaction.specs.Transaction.{meters, minText, oneWrite}
 use Rattle.bus.specs.Frame.{openLen, leastL, mediumPlace, bytesIn, unbroken}
 use Rattle.bus.specs.Medium.{codeOf, unitOf}
 use Rattle.bus.specs.Records.{firstReading}
-use Rattle.bus.specs.Answer.{Told, turnDown, saidBy, codeIn, readingIn, heard, fromBus}
+use Rattle.protocol.specs.Said.{Told, turnDown}
+use Rattle.protocol.proofs.SaidLaws.{told-so}
+use Rattle.bus.specs.Answer.{saidBy, codeIn, readingIn, heard, fromBus}
 use Rattle.bus.specs.declared.Found.the-variants as F
 use Rattle.bus.specs.declared.Heard.{Heard}
 use Rattle.bus.specs.declared.Heard.the-variants as H
@@ -27,7 +29,7 @@ abbrev pub turned : Heard → Told
 turned h = record { said = saidBy h; put = [] }
 
 pub turned-so : {a : Told} (h : Heard) (out : List ℕ) → a ≡ turned h → (saidBy h ≡ a .said) × (out ≡ putOver (a .put) out)
-turned-so h out e = (sym (ap (λ (x : Told). x .said) e), sym (ap (λ (x : Told). putOver (x .put) out) e))
+turned-so h out e = told-so out e
 
 -- ---- the transaction of a reading
 

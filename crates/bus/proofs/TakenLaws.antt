@@ -20,7 +20,7 @@ use Rattle.transaction.proofs.WrittenLaws.{one-write-count, one-write-stamp, on
 use Rattle.protocol.specs.declared.State.{State}
 use Rattle.protocol.specs.declared.Store.the-variants as S
 use Rattle.protocol.specs.Said as protocol
-use Rattle.protocol.specs.Said.{refused, taken, Answered}
+use Rattle.protocol.specs.Said.{refused, taken, Answered, Told, turnDown}
 use Rattle.table.specs.Table.{lanes}
 use Rattle.protocol.specs.History.{isTaken}
 use Rattle.protocol.specs.Sheet.{number}
@@ -35,7 +35,7 @@ use Rattle.bus.specs.Frame.{leastL, mediumPlace, bytesIn, unbroken}
 use Rattle.bus.specs.Medium.{codeOf, unitOf}
 use Rattle.bus.specs.Digits.{digitsIn, decimal, allDigits, minus, readingBy, readingOf}
 use Rattle.bus.specs.Records.{look, follow, firstWithin, firstReading, dataPlace}
-use Rattle.bus.specs.Answer.{Told, turnDown, codeIn, readingIn, heard, fromBus}
+use Rattle.bus.specs.Answer.{codeIn, readingIn, heard, fromBus}
 use Rattle.bus.specs.Claim.{OneWriteTo}
 use Rattle.bus.proofs.FieldLaws.{cond-by}
 use Rattle.bus.proofs.DigitLaws.{minus-small, four}

@@ -14,13 +14,13 @@ use borrow.Author.Tests.{le-leb, eqb-false}
 use Rattle.octets.specs.Lists.{at}
 use Rattle.transaction.specs.Transaction.{meters, minText}
 use Rattle.protocol.specs.declared.Store.the-variants as S
-use Rattle.protocol.specs.Said.{taken}
+use Rattle.protocol.specs.Said.{taken, Told}
 use Rattle.bus.specs.declared.Found.{Found}
 use Rattle.bus.specs.declared.Found.the-variants as F
 use Rattle.bus.specs.Frame.{fieldsLen, headerLen, leastL, mediumPlace, replyCi, isReply, longFrame, bytesIn, unbroken}
 use Rattle.bus.specs.Medium.{litres, kilowattHours, codeOf, unitOf}
 use Rattle.bus.specs.Records.{wantedDif, firstReading}
-use Rattle.bus.specs.Answer.{Told, saidBy, codeIn, readingIn, heard, fromBus}
+use Rattle.bus.specs.Answer.{saidBy, codeIn, readingIn, heard, fromBus}
 use Rattle.bus.specs.Claim.{Built, TakenAs, TakenReply, BusClaim}
 use Rattle.bus.proofs.FieldLaws.{cond-by}
 use Rattle.bus.proofs.FrameLaws.{places, reply-facts, unbroken-facts, unbroken-built, framed-unbroken, bytes-framed}

@@ -4,13 +4,13 @@
 -- number is returned, and a refusal puts nothing out.
 -- Assumes nothing.
 use Prim.Native.Nat.{ℕ}
-use mathlib.Core.Bool.{Bool, true, false, cond, not}
+use mathlib.Core.Bool.{cond, not}
 use mathlib.Core.List.{List, [], _∷_}
 use lib.Dec.{leb, ltb, eqb}
 use lib.ListN.{drop}
 use Rattle.octets.specs.Lists.{at}
 use Rattle.transaction.specs.Transaction.{meters, minText, oneWrite}
-use Rattle.protocol.specs.Said.{Said, refused, taken}
+use Rattle.protocol.specs.Said.{Said, refused, taken, Told, turnDown}
 use Rattle.protocol.specs.declared.Store.the-variants as S
 use Rattle.bus.specs.Frame.{leastL, mediumPlace, bytesIn, unbroken}
 use Rattle.bus.specs.Medium.{codeOf, unitOf}
@@ -19,16 +19,6 @@ use Rattle.bus.specs.declared.Found.{Found}
 use Rattle.bus.specs.declared.Found.the-variants as F
 use Rattle.bus.specs.declared.Heard.{Heard}
 use Rattle.bus.specs.declared.Heard.the-variants as H
-
--- ---- what is said, and the bytes put out at the start of the lent buffer
-
-pub record Told : Type 0 where
-  pub said : Said
-  pub put : List ℕ
-
-unfoldable pub turnDown : Bool → ℕ → List ℕ → Told → Told
-turnDown true n vs other = record { said = refused n vs; put = [] }
-turnDown false n vs other = other
 
 -- the numbers and values of the code's answers
 unfoldable pub saidBy : Heard → Said

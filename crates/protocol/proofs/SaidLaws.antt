@@ -4,8 +4,8 @@ use Prim.Native.Nat.{ℕ}
 use mathlib.Core.Path.{_≡_, refl, sym, ap, _∙_}
 use mathlib.Core.List.{List, [], _∷_}
 use lib.ListN.{getD}
-use Rattle.octets.specs.Lists.{at}
-use Rattle.protocol.specs.Said.{Said, refused, taken, numberOf, valuesOf, shown}
+use Rattle.octets.specs.Lists.{at, putOver}
+use Rattle.protocol.specs.Said.{Said, refused, taken, Told, numberOf, valuesOf, shown}
 use Rattle.protocol.specs.declared.Refusal.{Refusal}
 use Rattle.protocol.specs.declared.Refusal.the-variants as R
 use Rattle.protocol.specs.declared.Outcome.{Outcome}
@@ -50,3 +50,7 @@ outcome-back (O.Refused w) = ap O.Refused (refusal-back w)
 -- answers that show the same are the same
 pub shown-same : (a b : Outcome) → shown a ≡ shown b → a ≡ b
 shown-same a b e = sym (outcome-back a) ∙ ap outcomeOf e ∙ outcome-back b
+
+-- of a function that takes no state: what is said, and what is left of the lent buffer
+pub told-so : {a b : Told} (out : List ℕ) → a ≡ b → (b .said ≡ a .said) × (putOver (b .put) out ≡ putOver (a .put) out)
+told-so out e = (sym (ap (λ (x : Told). x .said) e), sym (ap (λ (x : Told). putOver (x .put) out) e))

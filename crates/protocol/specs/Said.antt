@@ -34,6 +34,17 @@ unfoldable pub refuse : Bool → State → ℕ → List ℕ → Answered → Ans
 refuse true c n vs other = refusing c n vs
 refuse false c n vs other = other
 
+-- ---- a function that takes no state: what is said, and the bytes put out at the start of the lent buffer
+
+pub record Told : Type 0 where
+  pub said : Said
+  pub put : List ℕ
+
+-- turned down where the test holds: nothing is put out
+unfoldable pub turnDown : Bool → ℕ → List ℕ → Told → Told
+turnDown true n vs other = record { said = refused n vs; put = [] }
+turnDown false n vs other = other
+
 -- ---- the code's answer, in these terms
 
 abbrev pub refusedWith : State → Refusal → Answer
