@@ -9,9 +9,13 @@ ghost use mathlib.Core.List.{[], _∷_};
 ghost use Rattle.octets.specs.Lists.{at};
 ghost use Rattle.protocol.specs.Said.{refused, numberOf, valuesOf, shown, shownAs};
 ghost use Rattle.bus.specs.Answer.{saidBy};
+ghost use Rattle.heat.specs.Answer.{saidBy as splitBy};
+ghost use Rattle.heat.specs.Plain.{plainBy};
 ghost use Rattle.boundary.specs.Flat.{dueOf, numbers, dueNumbers, phaseOf, phaseNumber, knownBy, thaw, freeze};
 ghost use Rattle.boundary.specs.Replies.{named, saidOf, replyOf, notAState};
 use bus::Heard;
+use heat::Plain;
+use heat::Split;
 use protocol::Answer;
 use protocol::CheckpointStep;
 use protocol::Due;
@@ -27,11 +31,12 @@ use protocol::State;
 use protocol::Store;
 use protocol::TruncateStep;
 use protocol::Vault;
+use table::TABLE_LEN;
 use table::Table;
 use transaction::MIN_TEXT;
 
 // The edition of the C interface: how many of the requests of document 02 it has.
-pub const EDITION: u64 = 4;
+pub const EDITION: u64 = 5;
 
 // The store that is due: its kind, and the position, the lane and the checkpoint (0 the first, 1 the second) of a kind that
 // has them. What a kind does not have is 0.
@@ -474,6 +479,29 @@ pub fn said_of_bus(h: Heard) -> Said
         Heard::Meter => refused(4, 0),
         Heard::Broken => refused(16, 0),
         Heard::Unusable => refused(17, 0),
+    }
+}
+
+// What a heat split comes to.
+pub fn said_of_split(h: Split) -> Said
+    ensures { λ r. ⌜ r ≡ saidOf (splitBy h) ⌝ }
+{
+    match h {
+        Split::Written(len) => named(Store::Nothing, len as u64),
+        Split::Short(right) => refused(3, right as u64),
+        Split::NoTables => refused(4, 0),
+        Split::CodeChanged => refused(18, 0),
+        Split::NothingUsed => refused(19, 0),
+    }
+}
+
+// What a plain table comes to.
+pub fn said_of_plain(h: Plain) -> Said
+    ensures { λ r. ⌜ r ≡ saidOf (plainBy h) ⌝ }
+{
+    match h {
+        Plain::Put => named(Store::Nothing, TABLE_LEN as u64),
+        Plain::Room => refused(3, TABLE_LEN as u64),
     }
 }
 

@@ -2,7 +2,7 @@
 use mathlib.Core.Path.{_≡_, refl, ap, _∙_, sym}
 use mathlib.Core.List.{List, [], _∷_, _++_}
 use Prim.Native.Nat.{ℕ, zero, suc, _+_, _<_, _≤_}
-use native.Mathlib.Nat.{add-zero, add-suc, suc-add, zero-add, le-antisymm}
+use native.Mathlib.Nat.{add-zero, add-suc, suc-add, zero-add, le-antisymm, not-suc-le-zero, le-of-suc-le-suc}
 use native.Mathlib.Numerals.{add-one}
 use native.Mathlib.Omega.{arith}
 use lib.ListN.{length, take, set, getD}
@@ -31,3 +31,12 @@ copied-whole w key n j h k len e =
     let ej : j ≡ n = le-antisymm h k in
     let e1 : take n key ≡ key = take-all n key (omega arith) in
     cc
+
+-- what stands at a place
+from-at : (f : ℕ → ℕ) (n i k : ℕ) → k < n → getD (from i n f) k 0 ≡ f (i + k)
+from-at f zero i k h = absurd (not-suc-le-zero h)
+from-at f (suc n) i zero h = rw add-zero
+from-at f (suc n) i (suc k) h = from-at f n (suc i) k (le-of-suc-le-suc h) ∙ ap f (suc-add i k ∙ sym (add-suc i k))
+
+pub at-tab : (f : ℕ → ℕ) (n k : ℕ) → k < n → getD (tab n f) k 0 ≡ f k
+at-tab f n k h = from-at f n 0 k h ∙ ap f (zero-add k)

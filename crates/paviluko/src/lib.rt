@@ -17,6 +17,8 @@ ghost use Rattle.protocol.specs.Checkpoint.{checkpoint};
 ghost use Rattle.protocol.specs.Truncate.{truncate};
 ghost use Rattle.protocol.specs.Recover.{recover};
 ghost use Rattle.bus.specs.Answer.{fromBus};
+ghost use Rattle.heat.specs.Answer.{heatSplit};
+ghost use Rattle.heat.specs.Plain.{plainTable};
 ghost use Rattle.boundary.specs.Flat.{thaw};
 ghost use Rattle.boundary.specs.Replies.{saidOf, replyOf, replyTo, putTo};
 use boundary::DueNumbers;
@@ -162,6 +164,30 @@ pub extern "C" fn paviluko_from_bus(frame: &[u8], meter: u16, stamp: u64, out: &
 {
     let h = bus::from_bus(frame, meter, stamp, out);
     boundary::said_of_bus(h)
+}
+
+// ---- the yearly heat split
+
+// The lines of the heat split of two plain tables, the start's first, at the start of out. Names no store. Refuses with 4,
+// 18, 19, and then 3.
+#[no_mangle]
+pub extern "C" fn paviluko_heat_split(tables: &[u8], out: &mut [u8]) -> Said
+    ensures answer { λ r. ⌜ r ≡ saidOf (heatSplit (now (tables .entry)) (length (now (out .entry))) .said) ⌝ }
+    ensures bytes { λ r. ⌜ now (out .exit) ≡ putOver (heatSplit (now (tables .entry)) (length (now (out .entry))) .put) (now (out .entry)) ⌝ }
+{
+    let h = heat::heat_split(tables, out);
+    boundary::said_of_split(h)
+}
+
+// The plain table of a state, at the start of out. Names no store. Refuses with 3.
+#[no_mangle]
+pub extern "C" fn paviluko_plain_table(s: FlatState, out: &mut [u8]) -> Said
+    ensures answer { λ r. ⌜ r ≡ saidOf (plainTable (s .table) (length (now (out .entry))) .said) ⌝ }
+    ensures bytes { λ r. ⌜ now (out .exit) ≡ putOver (plainTable (s .table) (length (now (out .entry))) .put) (now (out .entry)) ⌝ }
+{
+    let t = s.table;
+    let h = heat::plain_table(t, out);
+    boundary::said_of_plain(h)
 }
 
 // ---- for a host and a screen

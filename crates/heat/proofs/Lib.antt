@@ -1,0 +1,11 @@
+-- NumeralLaws: numbers in decimal, and how the code writes them. SignedLaws: signed numbers of 64 bits. SumLaws: sums and counts below a number. ShareLaws: what holds of the shares.
+pub mod NumeralLaws
+pub mod SignedLaws
+pub mod SumLaws
+pub mod UsesLaws
+pub mod TextLaws
+pub mod SplitLaws
+pub mod PrintLaws
+pub mod RankLaws
+pub mod ShareLaws
+pub mod DividedLaws
