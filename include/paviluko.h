@@ -16,6 +16,8 @@
  *   checkpoint   3 calls seal the whole table into a file                                     names N, the file, S
  *   truncate     9 calls give up the records below a covered point                            names R of 8 lanes, the deletion
  *   from_bus     the reading of an M-Bus reply as a transaction, for accept; takes no state   names nothing
+ *   plain_table  the whole table in plain, to be kept for the bills                           names nothing
+ *   heat_split   what each heat meter used between two such tables; takes no state            names nothing
  *
  * THE ONE RULE. A call that is taken names at most one store (paviluko_said: store, lane, value, len). The host carries
  * out exactly that store before the next call, and hands the next call the state last returned. Nothing else sets the
@@ -57,17 +59,25 @@
  * POSITIONS are the host's: any rising numbers, 0 among them. They start anew whenever a recovery ends, for it empties
  * the log.
  *
- * A CALL THAT IS TURNED DOWN returns one of the numbers 1 to 17. It hands back the state that came, leaves every buffer
+ * A CALL THAT IS TURNED DOWN returns one of the numbers 1 to 19. It hands back the state that came, leaves every buffer
  * as it was, and names no store: the host may simply go on. Where several causes hold, the lowest number is returned. If
  * commit says 9 to a record read back from the card, read it again and call again; if it says 9 again, the card has not
  * kept the record: load, and recover with a log that leaves this record out, for recover would say 9 to it as well. The
  * number is then given up, and the transaction is accepted anew. (Were the record one that is visible, recover would say
  * 11 or 13. In commit, 10 and 11 mean that another record was handed over than the one that is next in its lane.)
  *
- * WHAT IS PROVED. Each function below returns, for every argument, what the definitions in crates/protocol/specs and
- * crates/bus/specs say (the promises stand in crates/paviluko/src/lib.rt); and of any run of these calls with cuts,
- * whatever card is handed over, that the table of an accepted recovery is the latest reading of every meter, and that a
- * card that kept faith is accepted (crates/boundary/specs/Claim.antt; docs/ARCHITECTURE.md has it in words).
+ * THE PLAIN TABLE (from edition 5 on) is what the yearly bill is made from: plain_table puts it out at the start and at
+ * the end of the year, and heat_split takes the two. IT IS NOT SEALED. It has no tag, and nothing in it says which
+ * collector it is from: anybody who can write to it can change a reading, and heat_split takes any two tables that are in
+ * their layout. So keep it where the bills are kept and nobody else writes, and not on the card. Ask for it once recover
+ * has taken the card (recovering or in service): a cold collector has no reading, and its table is zeros. To split, no
+ * key, no state and no collector is needed: it can be done in the office.
+ *
+ * WHAT IS PROVED. Each function below returns, for every argument, what the definitions in crates/protocol/specs,
+ * crates/bus/specs and crates/heat/specs say (the promises stand in crates/paviluko/src/lib.rt); and of any run of these
+ * calls with cuts, whatever card is handed over, that the table of an accepted recovery is the latest reading of every
+ * meter, and that a card that kept faith is accepted (crates/boundary/specs/Claim.antt; docs/ARCHITECTURE.md has it in
+ * words).
  *
  * BUFFERS MUST NOT CHANGE DURING A CALL. What a call is lent, nobody else writes until it returns: no other thread, no
  * interrupt, no DMA, no card that is mapped into memory. A call reads its input more than once, and bytes that change
@@ -76,7 +86,7 @@
  * OUT HOLDS PLAIN READINGS DURING A CALL. From edition 3 on a record or a file is sealed in `out` itself: its text is
  * written there and encrypted where it stands, so that no second buffer is needed. When the call returns, what it put out is
  * sealed. Until then lend RAM that nobody else reads, and no card that is mapped into memory: a power cut within the call
- * could leave plain readings on it.
+ * could leave plain readings on it. plain_table and heat_split seal nothing: what they put out is plain for good.
  *
  * POINTERS. The functions want a valid address for each buffer, even for one of length 0; in the paviluko_do_ functions a
  * NULL buffer is one of length 0, whatever length stands beside it. `out` must not overlap another buffer of the same
@@ -85,9 +95,9 @@
  * MEMORY AND THREADS. There is no heap, no global and no hidden state: the functions are re-entrant, and no pointer
  * outlives its call. State and reply are some 8 KB each and are passed by value, so a call needs stack. Measured
  * (bench/stack.c), state and reply among it: load 27 KB, accept 31, truncate 32, point 40, seal 46, commit 47, checkpoint
- * 58, recover 105, the questions at the end 15; from_bus, which has neither, less than 1. PAVILUKO_STACK leaves room beyond
- * the deepest of them. The paviluko_do_ functions at the end of this file take a pointer to the state instead, and write
- * the next state back.
+ * 58, recover 105, the questions at the end 15; plain_table, which has no reply, 9; from_bus and heat_split, which have
+ * neither, less than 1 and 18. PAVILUKO_STACK leaves room beyond the deepest of them. The paviluko_do_ functions at the end
+ * of this file take a pointer to the state instead, and write the next state back.
  *
  * THE KEY. A state holds the key; paviluko_clear wipes one that is no longer needed. The stack that a call used may hold
  * copies of the state, the key and plain readings until something else is written there, and so may the frame of the
@@ -120,7 +130,7 @@ extern "C" {
  * How many of the requests of document 02 this interface has: each one raises it. The library says its own, so that a program
  * can tell whether header and archive belong together. make lib prints it with a hash of the sources. */
 
-#define PAVILUKO_EDITION 4
+#define PAVILUKO_EDITION 5
 uint64_t paviluko_edition(void);
 
 /* ---- numbers and lengths ---- */
@@ -144,6 +154,11 @@ uint64_t paviluko_edition(void);
 #define PAVILUKO_RECORD_EXTRA 40
 #define PAVILUKO_RECORD_MAX 176
 #define PAVILUKO_CHECKPOINT_LEN 6184
+/* A table in plain, which is what a checkpoint file has sealed: per meter, 0 to 255, stamp (8 bytes), number (8), reading (4,
+ * signed), code (1 to 4), lane (0 to 7), 1, 0; or 24 bytes of 0, exactly for a meter without a reading. All little-endian. */
+#define PAVILUKO_TABLE_LEN 6144
+/* Room for the text of any heat split: its first line of 17 bytes, and at most 24 for each meter. */
+#define PAVILUKO_HEAT_TEXT_MAX 6161
 /* The longest log that recover reads. */
 #define PAVILUKO_LOG_MAX 262144
 /* Stack to keep free for a call. */
@@ -187,23 +202,25 @@ enum {
 /* paviluko_said.number: why a call was turned down. In brackets what value then is; it is 0 for the others. */
 enum {
     PAVILUKO_TAKEN = 0,
-    PAVILUKO_REFUSED_CONDITION = 1,    /* another store is due, wrong phase for this call, or a state that no call left */
-    PAVILUKO_REFUSED_NUMBERS = 2,      /* load: numbers break V <= W, R <= W, R > V only where R = W, or the maximum */
-    PAVILUKO_REFUSED_LENGTH = 3,       /* key not 16 bytes, out too short, log too long (the length needed or allowed) */
-    PAVILUKO_REFUSED_TRANSACTION = 4,  /* transaction not in its layout; from_bus: meter above 255 */
-    PAVILUKO_REFUSED_LANE = 5,         /* lane above 7 */
-    PAVILUKO_REFUSED_POSITION = 6,     /* position too low */
-    PAVILUKO_REFUSED_FULL = 7,         /* 128 records listed, or 8 points kept */
-    PAVILUKO_REFUSED_SPENT = 8,        /* a counter is at its maximum */
-    PAVILUKO_REFUSED_CLOSED = 9,       /* bytes do not open (offset of the record; 0 for a checkpoint too, and in commit) */
-    PAVILUKO_REFUSED_EPOCH = 10,       /* wrong epoch (offset, 0 in commit) */
-    PAVILUKO_REFUSED_TURN = 11,        /* number out of turn (offset, 0 in commit) */
-    PAVILUKO_REFUSED_VERSION = 12,     /* checkpoint version is not S */
-    PAVILUKO_REFUSED_MISSING = 13,     /* visible records missing, or torn (the lowest such lane) */
-    PAVILUKO_REFUSED_NO_POINT = 14,    /* no such point, or not covered by a checkpoint */
-    PAVILUKO_REFUSED_UNSEEN = 15,      /* a record below the point is not committed yet */
-    PAVILUKO_REFUSED_FRAME = 16,       /* from_bus: a broken frame */
-    PAVILUKO_REFUSED_NO_READING = 17   /* from_bus: a frame without a usable record */
+    PAVILUKO_REFUSED_CONDITION = 1,     /* another store is due, wrong phase for this call, or a state that no call left */
+    PAVILUKO_REFUSED_NUMBERS = 2,       /* load: numbers break V <= W, R <= W, R > V only where R = W, or the maximum */
+    PAVILUKO_REFUSED_LENGTH = 3,        /* key not 16 bytes, out too short, log too long (the length needed or allowed) */
+    PAVILUKO_REFUSED_TRANSACTION = 4,   /* transaction, or heat_split's tables, not in the layout; from_bus: meter above 255 */
+    PAVILUKO_REFUSED_LANE = 5,          /* lane above 7 */
+    PAVILUKO_REFUSED_POSITION = 6,      /* position too low */
+    PAVILUKO_REFUSED_FULL = 7,          /* 128 records listed, or 8 points kept */
+    PAVILUKO_REFUSED_SPENT = 8,         /* a counter is at its maximum */
+    PAVILUKO_REFUSED_CLOSED = 9,        /* bytes do not open (offset of the record; 0 for a checkpoint too, and in commit) */
+    PAVILUKO_REFUSED_EPOCH = 10,        /* wrong epoch (offset, 0 in commit) */
+    PAVILUKO_REFUSED_TURN = 11,         /* number out of turn (offset, 0 in commit) */
+    PAVILUKO_REFUSED_VERSION = 12,      /* checkpoint version is not S */
+    PAVILUKO_REFUSED_MISSING = 13,      /* visible records missing, or torn (the lowest such lane) */
+    PAVILUKO_REFUSED_NO_POINT = 14,     /* no such point, or not covered by a checkpoint */
+    PAVILUKO_REFUSED_UNSEEN = 15,       /* a record below the point is not committed yet */
+    PAVILUKO_REFUSED_FRAME = 16,        /* from_bus: a broken frame */
+    PAVILUKO_REFUSED_NO_READING = 17,   /* from_bus: a frame without a usable record */
+    PAVILUKO_REFUSED_CODE_CHANGED = 18, /* heat_split: a meter in both tables is heat in one and another code in the other */
+    PAVILUKO_REFUSED_NOTHING_USED = 19  /* heat_split: the total is zero, there is nothing to share */
 };
 
 /* ---- structs ----
@@ -290,11 +307,11 @@ typedef struct {
 } paviluko_state;
 
 /* What a call says. Taken: number is 0, store is the one to carry out with lane and value, and len is how many bytes stand at
- * the start of out. Turned down: number is 1 to 17, value is what is returned with it, and the rest is 0. */
+ * the start of out. Turned down: number is 1 to 19, value is what is returned with it, and the rest is 0. */
 typedef struct {
     uint64_t value;
     uint64_t len;
-    uint8_t number;  /* 0, or PAVILUKO_REFUSED_CONDITION .. PAVILUKO_REFUSED_NO_READING */
+    uint8_t number;  /* 0, or PAVILUKO_REFUSED_CONDITION .. PAVILUKO_REFUSED_NOTHING_USED */
     uint8_t store;   /* PAVILUKO_STORE_ */
     uint8_t lane;
 } paviluko_said;
@@ -397,6 +414,28 @@ paviluko_reply paviluko_recover(paviluko_state s, const uint8_t *checkpoint, siz
  * or FC or a record that runs past the L bytes, or another digit above 9 in it, or another medium. out is then as it came. */
 paviluko_said paviluko_from_bus(const uint8_t *frame, size_t len, uint16_t meter, uint64_t stamp, uint8_t *out, size_t room);
 
+/* ---- the yearly heat split ---- */
+
+/* The table of latest readings in plain, PAVILUKO_TABLE_LEN bytes at the start of out, as a checkpoint's text has them; the
+ * bytes behind it stay. Whatever the state, and whatever store is due; the state stays. Said: number 0, store
+ * PAVILUKO_STORE_NONE, len PAVILUKO_TABLE_LEN. It is not sealed (THE PLAIN TABLE, above).
+ * Turned down: 3 (PAVILUKO_TABLE_LEN). out is then as it came. */
+paviluko_said paviluko_plain_table(paviluko_state s, uint8_t *out, size_t room);
+
+/* What each heat meter used between two plain tables, and its share of the house in millionths. `tables` is the table at the
+ * start of the year and then the one at its end, PAVILUKO_TABLE_LEN bytes each, so len is twice that. The text is put at the
+ * start of out, and the bytes behind it stay: the line "meter,used,share", then for each meter that is in both tables with code
+ * 3 (heat) a line of these three, by rising meter, in decimal, '-' before a negative use; a newline (10) ends each line. It has
+ * no 0 at its end. Said: number 0, store PAVILUKO_STORE_NONE, len the text's length, at most PAVILUKO_HEAT_TEXT_MAX.
+ * Used is the end's reading less the start's. The total is the sum of the uses that are not negative, and a share is used times
+ * 1,000,000 divided by it, rounded down; 0 for a negative use. The units that are then missing go one each to the largest
+ * remainders, the lower meter first among equals: the shares add up to 1,000,000. A meter that one of the tables has not is
+ * left out. Stamps play no part: that two tables are the wrong way round is not noticed, every use then has the other sign.
+ * Turned down: 3 (the length needed), where there is a text and out is shorter; 4, where tables is not exactly two tables in
+ * their layout, the entries of other codes too; 18, a meter that both have with code 3 in one and another in the other; then
+ * 19, the total is 0, or there is no such meter. out is then as it came, and only 3 has a value. */
+paviluko_said paviluko_heat_split(const uint8_t *tables, size_t len, uint8_t *out, size_t room);
+
 /* ---- for a host and a screen: a state's fields, whatever the state ---- */
 
 /* The latest reading of a meter. Readings are true of the visible transactions while recovering and in service. */
@@ -415,7 +454,8 @@ uint64_t paviluko_points(paviluko_state s);
 
 /* ---- the same with the state behind a pointer ----
  * Each calls the function of its name with *s, writes the next state to *s, and returns what was said. A NULL buffer is one of
- * length 0, whatever length stands beside it. s and x are never NULL. paviluko_do_from_bus has no state. */
+ * length 0, whatever length stands beside it. s and x are never NULL. paviluko_do_plain_table leaves *s, and
+ * paviluko_do_from_bus and paviluko_do_heat_split have no state. */
 
 static inline const uint8_t *paviluko_some(const uint8_t *p)
 {
@@ -500,6 +540,18 @@ static inline paviluko_said paviluko_do_from_bus(const uint8_t *frame, size_t le
     uint8_t none = 0;
     return paviluko_from_bus(paviluko_some(frame), paviluko_len(frame, len), meter, stamp, out ? out : &none,
                              paviluko_len(out, room));
+}
+
+static inline paviluko_said paviluko_do_plain_table(const paviluko_state *s, uint8_t *out, size_t room)
+{
+    uint8_t none = 0;
+    return paviluko_plain_table(*s, out ? out : &none, paviluko_len(out, room));
+}
+
+static inline paviluko_said paviluko_do_heat_split(const uint8_t *tables, size_t len, uint8_t *out, size_t room)
+{
+    uint8_t none = 0;
+    return paviluko_heat_split(paviluko_some(tables), paviluko_len(tables, len), out ? out : &none, paviluko_len(out, room));
 }
 
 /* Wipes a state, padding and all; the compiler keeps every write. What is left is no state: every call on it is turned down
