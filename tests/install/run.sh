@@ -99,7 +99,7 @@ for name in $(grep -o 'PAVILUKO_\(TAKEN\|REFUSED_[A-Z_]*\|STORE_[A-Z_]*\) = [0-9
     grep -qw "${name%%_*} ${name#*_}" "$page" || fail "$page has no ${name#*_} with the number ${name%%_*}"
     constants=$((constants + 1))
 done
-[ "$functions" -ge 26 ] && [ "$constants" -ge 29 ] || fail "$header: $functions functions and $constants constants found, too few"
+[ "$functions" -ge 30 ] && [ "$constants" -ge 31 ] || fail "$header: $functions functions and $constants constants found, too few"
 echo "install: the man page has $functions functions and $constants numbers of the header"
 
 quietly make uninstall PREFIX="$prefix"
