@@ -4,19 +4,11 @@
  * heap, so that valgrind sees every byte read or written beside them, and into one at each of 16 addresses in a row.
  * A call that is turned down has left every byte as it was lent. One that is taken puts the same bytes out wherever it is
  * lent, leaves every byte behind them, and nothing of its text in plain. */
-#include <string.h>
-
 #include "check.h"
-#include "paviluko.h"
+#include "rooms.h"
+#include "table.h"
 
-enum {
-    TABLE = PAVILUKO_CHECKPOINT_LEN - PAVILUKO_RECORD_EXTRA,
-    ENTRY = TABLE / PAVILUKO_METERS,
-    HEAD = 20,
-    PIECE = 8,
-    MORE = 70,
-    PLACES = 16
-};
+enum { HEAD = 20, PIECE = 8, MORE = 70, PLACES = 16 };
 
 static const uint8_t key[PAVILUKO_KEY_LEN] = {3, 1, 4, 1, 5, 9, 2, 6};
 static paviluko_state s;
@@ -98,7 +90,7 @@ static void everywhere(sealing *call, const uint8_t *text, size_t len, size_t st
     size_t need = len + PAVILUKO_RECORD_EXTRA;
     CHECK(call(wanted, need).said.number == PAVILUKO_TAKEN);
     CHECK(in_plain(text, text, len) && !in_plain(text, wanted + HEAD, len));
-    for (size_t room = 0; room <= need + MORE; room += room < 40 || room + 40 >= need ? 1 : step) {
+    for (size_t room = 0; room <= need + MORE; room = next_room(room, need, step)) {
         uint8_t *out = malloc(room ? room : 1);
         CHECK(out != NULL);
         put_out(call, out, room, need);
@@ -109,27 +101,9 @@ static void everywhere(sealing *call, const uint8_t *text, size_t len, size_t st
     }
 }
 
-/* A state's table as a checkpoint's text has it. */
-static void table_text(uint8_t *text)
-{
-    memset(text, 0, TABLE);
-    for (size_t i = 0; i < PAVILUKO_METERS; i++) {
-        const paviluko_entry *e = &s.table.entries[i];
-        uint8_t *to = text + ENTRY * i;
-        if (e->present) {
-            memcpy(to, &e->stamp, 8);
-            memcpy(to + 8, &e->number, 8);
-            memcpy(to + 16, &e->reading, 4);
-            to[20] = e->code;
-            to[21] = e->lane;
-            to[22] = 1;
-        }
-    }
-}
-
 int main(void)
 {
-    static uint8_t file[PAVILUKO_CHECKPOINT_LEN], log[16 * PAVILUKO_RECORD_MAX], table[TABLE];
+    static uint8_t file[PAVILUKO_CHECKPOINT_LEN], log[16 * PAVILUKO_RECORD_MAX], table[PAVILUKO_TABLE_LEN];
     size_t log_len = 0;
     paviluko_vault x;
     memset(&x, 0, sizeof x);
@@ -156,7 +130,7 @@ int main(void)
 
     /* Checkpoint's file. */
     CHECK(paviluko_do_checkpoint(&s, NULL, 0).number == PAVILUKO_TAKEN);
-    table_text(table);
+    table_text(&s, table);
     everywhere(checkpoint, table, sizeof table, 499);
     CHECK(paviluko_do_checkpoint(&s, file, sizeof file).number == PAVILUKO_TAKEN);
     CHECK(paviluko_do_checkpoint(&s, NULL, 0).number == PAVILUKO_TAKEN);
