@@ -1,9 +1,10 @@
 /* The boundary as a C program meets it: the library and include/paviluko.h agree on their edition, on every struct and on the
- * lengths of frame and transaction, a state of zeros is none, a short session runs, a call that is turned down hands the state
- * back as it came, and a NULL buffer is one of length 0. */
+ * lengths of frame, transaction, plain table and heat split, a state of zeros is none, a short session runs, a call that is
+ * turned down hands the state back as it came, and a NULL buffer is one of length 0. */
 #include "check.h"
 #include "frame.h"
 #include "same.h"
+#include "table.h"
 
 /* ---- the host's side: a vault, a card of a few records, and the newest file ---- */
 
@@ -61,6 +62,27 @@ static void all_refused(const paviluko_state *s, int number)
         refused(r[i].said, number, 0);
         CHECK(same_state(&r[i].state, s));
     }
+}
+
+/* The table of s in plain is put out, whatever the state. */
+static void plain(const paviluko_state *s)
+{
+    static uint8_t wanted[PAVILUKO_TABLE_LEN], put[PAVILUKO_TABLE_LEN + 1];
+    paviluko_state was = *s;
+    table_text(s, wanted);
+    memset(put, 0xa5, sizeof put);
+    refused(paviluko_plain_table(*s, put, PAVILUKO_TABLE_LEN - 1), PAVILUKO_REFUSED_LENGTH, PAVILUKO_TABLE_LEN);
+    refused(paviluko_do_plain_table(s, put, 0), PAVILUKO_REFUSED_LENGTH, PAVILUKO_TABLE_LEN);
+    refused(paviluko_do_plain_table(s, NULL, sizeof put), PAVILUKO_REFUSED_LENGTH, PAVILUKO_TABLE_LEN);
+    for (size_t i = 0; i < sizeof put; i++) {
+        CHECK(put[i] == 0xa5);
+    }
+    taken(paviluko_plain_table(*s, put, PAVILUKO_TABLE_LEN), PAVILUKO_STORE_NONE, 0, 0, PAVILUKO_TABLE_LEN);
+    CHECK(memcmp(put, wanted, sizeof wanted) == 0);
+    memset(put, 0xa5, sizeof put);
+    taken(paviluko_do_plain_table(s, put, sizeof put), PAVILUKO_STORE_NONE, 0, 0, PAVILUKO_TABLE_LEN);
+    CHECK(memcmp(put, wanted, sizeof wanted) == 0 && put[PAVILUKO_TABLE_LEN] == 0xa5);
+    CHECK(same_state(s, &was));
 }
 
 /* ---- structs ---- */
@@ -134,6 +156,7 @@ static void structs(void)
         paviluko_entry e = paviluko_reading(s, (uint8_t)i);
         CHECK(same_entry(&e, &s.table.entries[i]));
     }
+    plain(&s);
 
     /* The vault breaks load's rule: thawed, refused, frozen, with every kind of due store and every phase. */
     for (int kind = 0; kind <= PAVILUKO_DUE_RECOVER_EMPTY; kind++) {
@@ -149,6 +172,7 @@ static void structs(void)
             s.due.second = (uint8_t)second;
             s.phase = (uint8_t)phase;
             all_refused(&s, PAVILUKO_REFUSED_CONDITION);
+            plain(&s);
         }
         /* Numbers that no due store has. */
         s = fill();
@@ -164,6 +188,7 @@ static void structs(void)
     s = fill();
     s.phase = PAVILUKO_IN_SERVICE + 1;
     all_refused(&s, PAVILUKO_REFUSED_CONDITION);
+    plain(&s);
 }
 
 /* ---- a state of zeros ---- */
@@ -174,6 +199,7 @@ static void no_state(const paviluko_state *s)
     CHECK(memcmp(s, &none, sizeof none) == 0); /* padding and all */
     CHECK(paviluko_phase(*s) == 0 && paviluko_records(*s) == 0 && paviluko_points(*s) == 0);
     all_refused(s, PAVILUKO_REFUSED_CONDITION);
+    plain(s);
 }
 
 static void zeros(void)
@@ -258,6 +284,76 @@ static void bus(void)
     CHECK(memcmp(put, was, sizeof put) == 0);
 }
 
+/* ---- the yearly heat split ---- */
+
+static void heat(void)
+{
+    static const char first_lines[] = "meter,used,share\n0,4294967295,7813\n1,-4294967295,0\n";
+    static uint8_t tables[TABLES_LEN + 1], put[PAVILUKO_HEAT_TEXT_MAX + 1], was[sizeof put];
+    uint8_t *const end = tables + PAVILUKO_TABLE_LEN;
+    const size_t lines = sizeof example_lines - 1;
+    CHECK(PAVILUKO_TABLE_LEN == 6144 && PAVILUKO_TABLE_LEN == sizeof(paviluko_table));
+    CHECK(PAVILUKO_TABLE_LEN == PAVILUKO_CHECKPOINT_LEN - PAVILUKO_RECORD_EXTRA);
+    CHECK(PAVILUKO_HEAT_TEXT_MAX == 17 + 24 * PAVILUKO_METERS);
+    CHECK(PAVILUKO_REFUSED_CODE_CHANGED == 18 && PAVILUKO_REFUSED_NOTHING_USED == 19);
+    memset(was, 0xa5, sizeof was);
+
+    /* The request's lines, and the room for them is what is asked for. */
+    put_example(tables);
+    for (size_t room = 0; room <= lines + 4; room++) {
+        memcpy(put, was, sizeof put);
+        paviluko_said said = paviluko_heat_split(tables, TABLES_LEN, put, room);
+        if (room < lines) {
+            refused(said, PAVILUKO_REFUSED_LENGTH, lines);
+            CHECK(memcmp(put, was, sizeof put) == 0);
+        } else {
+            taken(said, PAVILUKO_STORE_NONE, 0, 0, lines);
+            CHECK(memcmp(put, example_lines, lines) == 0 && memcmp(put + lines, was, sizeof put - lines) == 0);
+        }
+    }
+    memcpy(put, was, sizeof put);
+
+    /* 4, 18 and 19, the lowest first, whatever the room. */
+    for (size_t room = 0; room <= sizeof put; room += sizeof put) {
+        put_example(tables);
+        refused(paviluko_do_heat_split(tables, TABLES_LEN - 1, put, room), PAVILUKO_REFUSED_TRANSACTION, 0);
+        refused(paviluko_do_heat_split(tables, TABLES_LEN + 1, put, room), PAVILUKO_REFUSED_TRANSACTION, 0);
+        refused(paviluko_do_heat_split(tables, PAVILUKO_TABLE_LEN, put, room), PAVILUKO_REFUSED_TRANSACTION, 0);
+        put_entry(tables, 30, 1, 7);
+        put_entry(end, 30, HEAT, 7);
+        refused(paviluko_do_heat_split(tables, TABLES_LEN, put, room), PAVILUKO_REFUSED_CODE_CHANGED, 0);
+        put_entry(tables, 30, HEAT, 7);
+        put_entry(end, 30, 4, 7);
+        refused(paviluko_do_heat_split(tables, TABLES_LEN, put, room), PAVILUKO_REFUSED_CODE_CHANGED, 0);
+        memcpy(end, tables, PAVILUKO_TABLE_LEN);
+        refused(paviluko_do_heat_split(tables, TABLES_LEN, put, room), PAVILUKO_REFUSED_NOTHING_USED, 0);
+        put_entry(end, 31, 1, 7);
+        put_entry(tables, 31, HEAT, 7);
+        refused(paviluko_do_heat_split(tables, TABLES_LEN, put, room), PAVILUKO_REFUSED_CODE_CHANGED, 0);
+        end[ENTRY * 255 + ZERO_AT] = 1;
+        refused(paviluko_do_heat_split(tables, TABLES_LEN, put, room), PAVILUKO_REFUSED_TRANSACTION, 0);
+        memset(tables, 0, TABLES_LEN);
+        refused(paviluko_do_heat_split(tables, TABLES_LEN, put, room), PAVILUKO_REFUSED_NOTHING_USED, 0);
+    }
+
+    /* Every meter, with uses of ten digits and a sign: no text is longer than the header says. */
+    for (int m = 0; m < PAVILUKO_METERS; m++) {
+        put_entry(tables, m, HEAT, m % 2 ? INT32_MAX : INT32_MIN);
+        put_entry(end, m, HEAT, m % 2 ? INT32_MIN : INT32_MAX);
+    }
+    paviluko_said said = paviluko_do_heat_split(tables, TABLES_LEN, put, PAVILUKO_HEAT_TEXT_MAX);
+    CHECK(said.number == PAVILUKO_TAKEN && said.len < PAVILUKO_HEAT_TEXT_MAX && put[said.len] == 0xa5);
+    CHECK(memcmp(put, first_lines, sizeof first_lines - 1) == 0);
+    memcpy(put, was, sizeof put);
+
+    /* NULL is no table, and no room, whatever length stands beside it. */
+    put_example(tables);
+    refused(paviluko_do_heat_split(NULL, TABLES_LEN, put, sizeof put), PAVILUKO_REFUSED_TRANSACTION, 0);
+    refused(paviluko_do_heat_split(tables, TABLES_LEN, NULL, sizeof put), PAVILUKO_REFUSED_LENGTH, lines);
+    refused(paviluko_do_heat_split(NULL, TABLES_LEN, NULL, sizeof put), PAVILUKO_REFUSED_TRANSACTION, 0);
+    CHECK(memcmp(put, was, sizeof put) == 0);
+}
+
 /* ---- a session ---- */
 
 static const uint8_t key[PAVILUKO_KEY_LEN] = {1, 2, 3, 4, 5, 6, 7, 8, 9, 10, 11, 12, 13, 14, 15, 16};
@@ -287,6 +383,7 @@ static void nine(const paviluko_state *s)
     CHECK(e.present == 1 && e.stamp == 1000 && e.number == 1 && e.reading == -5 && e.code == 3 && e.lane == 2);
     e = paviluko_reading(*s, 8);
     CHECK(e.present == 0 && e.stamp == 0 && e.reading == 0);
+    plain(s);
 }
 
 static void session(void)
@@ -413,6 +510,7 @@ int main(void)
     structs();
     zeros();
     bus();
+    heat();
     session();
     printf("boundary: %ld checks passed; state %zu bytes, reply %zu\n", checks, sizeof(paviluko_state),
            sizeof(paviluko_reply));

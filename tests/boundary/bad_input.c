@@ -1,7 +1,7 @@
 /* What a host can hand over by mistake, through every function of the C boundary: states of random numbers, good states with
- * one field changed, buffers of length 0 and of wrong lengths, bytes that are no record, frames of every length. A call that
- * is turned down leaves state and buffer as they were; a call that is taken writes its len bytes and none behind them. Buffers
- * have their exact length on the heap, so that valgrind sees every byte read or written beside them.
+ * one field changed, buffers of length 0 and of wrong lengths, bytes that are no record, frames of every length, tables that
+ * are none. A call that is turned down leaves state and buffer as they were; a call that is taken writes its len bytes and none
+ * behind them. Buffers have their exact length on the heap, so that valgrind sees every byte read or written beside them.
  *
  * Argument: how many rounds. */
 #include <stdio.h>
@@ -9,6 +9,7 @@
 
 #include "frame.h"
 #include "same.h"
+#include "table.h"
 
 static uint64_t calls, refused;
 
@@ -62,7 +63,7 @@ static uint8_t *lend(size_t len)
 static size_t some_len(void)
 {
     static const size_t lens[] = {0, 1, 7, 8, 9, 15, 16, 17, 19, 20, 21, 36, 39, 40, 55, 56, 57, 63, 64, 135, 136, 137, 144,
-                                  175, 176, 177, 6143, 6183, 6184, 6185};
+                                  175, 176, 177, 6143, 6144, 6145, 6183, 6184, 6185};
     return below(4) ? lens[below(sizeof lens / sizeof lens[0])] : below(300);
 }
 
@@ -185,6 +186,22 @@ static uint8_t *some_record(const uint8_t *record, size_t record_len, size_t *le
     }
 }
 
+/* The table of any state in plain: refused only for want of room. */
+static void in_plain(const paviluko_state *s, uint8_t *out, const uint8_t *was, size_t room)
+{
+    static uint8_t text[PAVILUKO_TABLE_LEN];
+    paviluko_reply r;
+    int fits = room >= PAVILUKO_TABLE_LEN;
+    r.state = *s;
+    r.said = paviluko_plain_table(*s, out, room);
+    look("plain_table", s, &r, out, was, room, fits ? 0 : PAVILUKO_REFUSED_LENGTH);
+    table_text(s, text);
+    if (r.said.number != (fits ? PAVILUKO_TAKEN : PAVILUKO_REFUSED_LENGTH) || r.said.store ||
+        r.said.value != (fits ? 0 : PAVILUKO_TABLE_LEN) || (fits && memcmp(out, text, sizeof text))) {
+        wrong("plain_table", "not the state's table", &r.said);
+    }
+}
+
 /* Every function on a state, with arguments of all sorts. */
 static void every(const paviluko_state *s, const uint8_t *record, size_t record_len, unsigned wanted)
 {
@@ -215,7 +232,9 @@ static void every(const paviluko_state *s, const uint8_t *record, size_t record_
     r = paviluko_recover(*s, file, below(2) ? file_len : 0, in, len, out, room);
     look("recover", s, &r, out, was, room, wanted);
 
-    /* A state's fields, whatever the state. */
+    /* A state's table and its fields, whatever the state. */
+    memcpy(out, was, room);
+    in_plain(s, out, was, room);
     uint8_t meter = (uint8_t)any();
     paviluko_entry entry = paviluko_reading(*s, meter);
     paviluko_vault numbers = paviluko_numbers(*s);
@@ -270,6 +289,7 @@ static void nulls(const paviluko_state *s, const paviluko_vault *x, const uint8_
     const paviluko_reply load = paviluko_load(*x, &one, 0), accept = paviluko_accept(*s, &one, 0, 0, 99),
                          seal = paviluko_seal(*s, &one, 0), commit = paviluko_commit(*s, &one, 0),
                          checkpoint = paviluko_checkpoint(*s, &one, 0);
+    const paviluko_said plain = paviluko_plain_table(*s, &one, 0);
     for (size_t i = 0; i < sizeof lens / sizeof lens[0]; i++) {
         size_t len = lens[i];
         paviluko_said said;
@@ -287,6 +307,9 @@ static void nulls(const paviluko_state *s, const paviluko_vault *x, const uint8_
         t = *s;
         said = paviluko_do_checkpoint(&t, NULL, len);
         same_answer("checkpoint", &said, &t, &checkpoint.said, &checkpoint.state);
+        t = *s;
+        said = paviluko_do_plain_table(&t, NULL, len);
+        same_answer("plain_table", &said, &t, &plain, s);
 
         /* Recover has three buffers: each of them NULL or not. */
         for (int which = 0; which < 8; which++) {
@@ -405,6 +428,101 @@ static void null_frames(void)
     }
 }
 
+/* ---- tables of a heat split ---- */
+
+static uint64_t split[PAVILUKO_REFUSED_NOTHING_USED + 1]; /* how often each number was said */
+
+/* So many bytes at their exact length, lent with some room. Turned down they leave out as it was; taken they have a text, which
+ * ends with a line, and nothing is written behind it. 0 for a number means any. */
+static void divide(const uint8_t *bytes, size_t len, unsigned wanted)
+{
+    size_t room = below(4) ? below(PAVILUKO_HEAT_TEXT_MAX + 3) : below(40);
+    uint8_t *tables = copy(bytes, len), *out = lend(room), *was = copy(out, room);
+    paviluko_said said = paviluko_heat_split(tables, len, out, room);
+    calls++;
+    refused += said.number != PAVILUKO_TAKEN;
+    if ((wanted && said.number != wanted) || said.number > PAVILUKO_REFUSED_NOTHING_USED) {
+        wrong("heat_split", "another answer was wanted", &said);
+    }
+    split[said.number]++;
+    int short_of = said.number == PAVILUKO_REFUSED_LENGTH;
+    if (said.store || said.lane || said.len > room || (said.number && said.len) || (!short_of && said.value) ||
+        (short_of && (said.value <= room || said.value > PAVILUKO_HEAT_TEXT_MAX))) {
+        wrong("heat_split", "no such answer", &said);
+    }
+    if (room && memcmp(out + said.len, was + said.len, room - said.len)) {
+        wrong("heat_split", "bytes written that are not the answer's", &said);
+    }
+    if (!said.number && (said.len < 17 || memcmp(out, "meter,used,share\n", 17) || out[said.len - 1] != '\n')) {
+        wrong("heat_split", "no lines", &said);
+    }
+    if (len && memcmp(tables, bytes, len)) {
+        wrong("heat_split", "the tables have changed", &said);
+    }
+    free(tables);
+    free(out);
+    free(was);
+}
+
+/* Two tables of some heat meters, and what may be wrong with them: their length, their bytes, an entry, a code. */
+static void tables(void)
+{
+    static uint8_t bytes[TABLES_LEN + ENTRY];
+    size_t len;
+    fill(bytes, sizeof bytes);
+    divide(bytes, TABLES_LEN, PAVILUKO_REFUSED_TRANSACTION);
+    memset(bytes, 0, sizeof bytes);
+    for (int m = 0; m < PAVILUKO_METERS; m++) {
+        uint8_t code = below(3) ? HEAT : (uint8_t)(1 + below(4));
+        for (uint8_t *table = bytes; table < bytes + TABLES_LEN; table += PAVILUKO_TABLE_LEN) {
+            if (below(8)) {
+                put_entry(table, m, code, (int32_t)(below(2) ? any() : below(20)));
+                fill(table + ENTRY * m, READING_AT);
+                table[ENTRY * m + LANE_AT] = (uint8_t)below(PAVILUKO_LANES);
+            }
+        }
+    }
+    divide(bytes, TABLES_LEN, 0);
+    do {
+        len = below(2) ? TABLES_LEN - ENTRY + below(2 * ENTRY + 1) : some_len();
+    } while (len == TABLES_LEN);
+    divide(bytes, len, PAVILUKO_REFUSED_TRANSACTION);
+
+    /* A code that is another, and one that is none, of a meter that both tables have. */
+    size_t m = below(PAVILUKO_METERS), table = PAVILUKO_TABLE_LEN * below(2);
+    put_entry(bytes, (int)m, HEAT, 5);
+    put_entry(bytes + PAVILUKO_TABLE_LEN, (int)m, HEAT, 6);
+    bytes[table + ENTRY * m + CODE_AT] = below(2) ? 4 : (uint8_t)(1 + below(2));
+    divide(bytes, TABLES_LEN, PAVILUKO_REFUSED_CODE_CHANGED);
+    bytes[table + ENTRY * m + CODE_AT] = below(2) ? 0 : (uint8_t)(5 + below(251));
+    divide(bytes, TABLES_LEN, PAVILUKO_REFUSED_TRANSACTION);
+    bytes[table + ENTRY * m + CODE_AT] = HEAT;
+    divide(bytes, TABLES_LEN, 0);
+
+    /* Nothing used; then a byte that must be 0. */
+    memcpy(bytes + PAVILUKO_TABLE_LEN, bytes, PAVILUKO_TABLE_LEN);
+    divide(bytes, TABLES_LEN, PAVILUKO_REFUSED_NOTHING_USED);
+    bytes[table + ENTRY * m + ZERO_AT] = (uint8_t)(1 + below(255));
+    divide(bytes, TABLES_LEN, PAVILUKO_REFUSED_TRANSACTION);
+}
+
+/* NULL for the tables and for out, whatever lengths stand beside them: the answers of empty ones. */
+static void null_tables(void)
+{
+    static const size_t lens[] = {0, 1, PAVILUKO_TABLE_LEN, TABLES_LEN, PAVILUKO_HEAT_TEXT_MAX, SIZE_MAX};
+    static uint8_t bytes[TABLES_LEN], out[PAVILUKO_HEAT_TEXT_MAX];
+    put_example(bytes);
+    for (size_t i = 0; i < sizeof lens / sizeof lens[0]; i++) {
+        paviluko_said no_tables = paviluko_do_heat_split(NULL, lens[i], out, sizeof out);
+        paviluko_said no_room = paviluko_do_heat_split(bytes, sizeof bytes, NULL, lens[i]);
+        calls += 2;
+        refused += 2;
+        if (no_tables.number != PAVILUKO_REFUSED_TRANSACTION || no_room.number != PAVILUKO_REFUSED_LENGTH) {
+            wrong("heat_split", "NULL: not the answer of an empty buffer", &no_tables);
+        }
+    }
+}
+
 int main(int argc, char **argv)
 {
     long rounds = argc > 1 ? atol(argv[1]) : 200;
@@ -491,9 +609,20 @@ int main(int argc, char **argv)
         fprintf(stderr, "from_bus: a number was never said\n");
         return 1;
     }
+    null_tables();
+    for (long round = 0; round < rounds; round++) {
+        tables();
+    }
+    if (!split[0] || !split[3] || !split[4] || !split[18] || !split[19]) {
+        fprintf(stderr, "heat_split: a number was never said\n");
+        return 1;
+    }
     printf("bad frames: %llu taken; turned down %llu with 3, %llu with 4, %llu with 16, %llu with 17\n",
            (unsigned long long)heard[0], (unsigned long long)heard[3], (unsigned long long)heard[4],
            (unsigned long long)heard[16], (unsigned long long)heard[17]);
+    printf("bad tables: %llu taken; turned down %llu with 3, %llu with 4, %llu with 18, %llu with 19\n",
+           (unsigned long long)split[0], (unsigned long long)split[3], (unsigned long long)split[4],
+           (unsigned long long)split[18], (unsigned long long)split[19]);
     printf("bad input: %llu calls, %llu of them turned down, nothing else touched\n", (unsigned long long)calls,
            (unsigned long long)refused);
     return 0;

@@ -1,7 +1,7 @@
 /* What the paviluko_do_ functions of the header pass on. The functions that they call are made here, and the library is not
  * linked: each notes what it is handed. A NULL buffer arrives as an address and length 0, whatever length stood beside it;
  * everything else arrives as it was given; the next state is written back, but for a load that is turned down, where there is a
- * state; and what was said is returned. */
+ * next one; and what was said is returned. */
 #include <string.h>
 
 #include "check.h"
@@ -118,17 +118,33 @@ paviluko_said paviluko_from_bus(const uint8_t *frame, size_t len, uint16_t meter
     return said;
 }
 
+paviluko_said paviluko_plain_table(paviluko_state s, uint8_t *out, size_t room)
+{
+    paviluko_said said = note("plain_table", s.vault.e).said;
+    note_buffer(out, room);
+    return said;
+}
+
+paviluko_said paviluko_heat_split(const uint8_t *tables, size_t len, uint8_t *out, size_t room)
+{
+    paviluko_said said = note("heat_split", 5).said;
+    note_buffer(tables, len);
+    note_buffer(out, room);
+    return said;
+}
+
 /* ---- the checks ---- */
 
 static paviluko_state s;
 
 static void look(const char *name, paviluko_said said, int buffers, uint8_t lane, uint64_t position)
 {
-    int stateless = strcmp(name, "from_bus") == 0;
-    int kept = stateless || (strcmp(name, "load") == 0 && answer != PAVILUKO_TAKEN);
+    int bus = strcmp(name, "from_bus") == 0;
+    int kept = bus || strcmp(name, "plain_table") == 0 || strcmp(name, "heat_split") == 0 ||
+               (strcmp(name, "load") == 0 && answer != PAVILUKO_TAKEN);
     CHECK(strcmp(got.name, name) == 0 && got.from == 5 && got.count == buffers);
     CHECK(got.lane == lane && got.position == position);
-    CHECK(got.meter == (stateless ? 65535 : 0) && got.stamp == (stateless ? UINT64_MAX : 0));
+    CHECK(got.meter == (bus ? 65535 : 0) && got.stamp == (bus ? UINT64_MAX : 0));
     CHECK(said.value == 11 && said.len == 12 && said.number == answer && said.store == 13 && said.lane == 14);
     CHECK(s.vault.e == (kept ? 5 : 7005));
     s.vault.e = 5;
@@ -165,6 +181,11 @@ static void calls(uint8_t *a, uint8_t *b, uint8_t *c, size_t len)
     look("from_bus", paviluko_do_from_bus(a, len, 65535, UINT64_MAX, b, len + 1), 2, 0, 0);
     arrived(0, a, len);
     arrived(1, b, len + 1);
+    look("plain_table", paviluko_do_plain_table(&s, a, len), 1, 0, 0);
+    arrived(0, a, len);
+    look("heat_split", paviluko_do_heat_split(a, len, b, len + 1), 2, 0, 0);
+    arrived(0, a, len);
+    arrived(1, b, len + 1);
 }
 
 int main(void)
@@ -172,7 +193,7 @@ int main(void)
     static const size_t lens[] = {0, 1, 16, 56, PAVILUKO_CHECKPOINT_LEN, PAVILUKO_LOG_MAX + 1, SIZE_MAX - 2};
     static uint8_t bytes[3];
     s.vault.e = 5;
-    for (answer = PAVILUKO_TAKEN; answer <= PAVILUKO_REFUSED_NO_READING; answer++) {
+    for (answer = PAVILUKO_TAKEN; answer <= PAVILUKO_REFUSED_NOTHING_USED; answer++) {
         for (size_t i = 0; i < sizeof lens / sizeof lens[0]; i++) {
             for (int which = 0; which < 8; which++) {
                 calls(which & 1 ? NULL : &bytes[0], which & 2 ? NULL : &bytes[1], which & 4 ? NULL : &bytes[2], lens[i]);

@@ -1,7 +1,7 @@
 #!/bin/sh
 # Tests the library that C programs link, with its header: the header by itself, struct layouts, a session, what a refusal
-# leaves, what is left of a key, and, under valgrind, sealing in the lent buffer, torn records and what a host can hand over by
-# mistake.
+# leaves, what is left of a key, and, under valgrind, sealing in the lent buffer, torn records, heat splits and what a host can
+# hand over by mistake.
 # Run from the repository's top; the library is built before. The argument, if any, is how many rounds of bad input.
 set -eu
 
@@ -66,10 +66,10 @@ for standard in c99 c11 c++17; do
     refuses 'static assertion failed\|is negative' "$standard" "$built/edited"
 done
 
-# The numbers 1 to 17 in order, each a PAVILUKO_REFUSED_, and none of the names that these things had before.
+# The numbers 1 to 19 in order, each a PAVILUKO_REFUSED_, and none of the names that these things had before.
 sed -n '/PAVILUKO_TAKEN = 0/,/};/s/^ *\(PAVILUKO_[A-Z_]*\) = \([0-9]*\).*/\1 \2/p' "$header" | awk '
     $2 != NR - 1 || $1 !~ (NR == 1 ? "^PAVILUKO_TAKEN$" : "^PAVILUKO_REFUSED_") { exit 1 }
-    END { if (NR != 18) exit 1 }' || fail "the numbers of the header are not PAVILUKO_TAKEN and 17 times PAVILUKO_REFUSED_"
+    END { if (NR != 20) exit 1 }' || fail "the numbers of the header are not PAVILUKO_TAKEN and 19 times PAVILUKO_REFUSED_"
 if grep -nE 'paviluko_[a-z_]*(mark|journal)|PAVILUKO_[A-Z_]*(MARK|JOURNAL)' "$header" ||
     grep -nwE 'paviluko_points_kept|PAVILUKO_(LISTED|CONDITION|NUMBERS|LENGTH|TRANSACTION|LANE|POSITION|FULL)' "$header" ||
     grep -nwE 'PAVILUKO_(SPENT|CLOSED|EPOCH|TURN|VERSION|MISSING|NO_POINT|UNSEEN)' "$header"; then
@@ -93,6 +93,11 @@ valgrind --error-exitcode=9 -q "$built/in_place"
 
 gcc -std=c11 -O2 -g -Wall -Wextra -Werror -Iinclude -o "$built/torn" "$here/torn.c" "$library"
 valgrind --error-exitcode=9 -q "$built/torn"
+
+# ---- the yearly heat split ----
+
+gcc -std=c11 -O2 -g -Wall -Wextra -Werror -Iinclude -o "$built/heat" "$here/heat.c" "$library"
+valgrind --error-exitcode=9 -q "$built/heat"
 
 # ---- what is left of a key ----
 
