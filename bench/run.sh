@@ -1,6 +1,7 @@
 #!/bin/sh
 # Benchmarks of the static libraries: the cipher against other libraries; records, checkpoint files and transactions
-# against the bare cipher; frames off the bus, a day of all collectors, and the stack of each call, through the C boundary.
+# against the bare cipher; frames off the bus, heat splits, a day of all collectors, and the stack of each call, through the C
+# boundary.
 # Run from the repository's top; the libraries are built before.
 set -eu
 
@@ -22,6 +23,7 @@ gcc -O2 -Wall -Wextra -Werror -rdynamic -Itests/cipher -o "$built/cipher" bench/
 gcc -O2 -Wall -Wextra -Werror -Itests/cipher -Itests/sealed -o "$built/sealed" bench/sealed.c \
     "$boundary" "$sealed" "$library"
 gcc -O2 -Wall -Wextra -Werror -Itests/cipher -o "$built/bus" bench/bus.c "$boundary" "$library"
+gcc -O2 -Wall -Wextra -Werror -Itests/cipher -o "$built/heat" bench/heat.c "$boundary" "$library"
 gcc -O2 -Wall -Wextra -Werror -Itests/cipher -o "$built/day" bench/day.c "$boundary" "$library"
 gcc -O2 -Wall -Wextra -Werror -o "$built/stack" bench/stack.c "$boundary" -lpthread
 
@@ -30,6 +32,8 @@ echo
 "$built/sealed"
 echo
 "$built/bus"
+echo
+"$built/heat"
 echo
 "$built/day"
 echo

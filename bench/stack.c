@@ -1,6 +1,6 @@
 /* How much stack a call takes: it is made on a thread whose stack was painted before, and what is no longer painted behind
-   it was used.  The state that is handed over and the reply stand on that stack too, some 8 KB each, but for from_bus; the
-   second column is without them. */
+   it was used.  The state that is handed over and the reply stand on that stack too, some 8 KB each, where a call has them;
+   the second column is without them. */
 
 #define _GNU_SOURCE
 
@@ -21,6 +21,7 @@ static uint8_t card_log[RECORDS * PAVILUKO_RECORD_MAX], card_file[PAVILUKO_CHECK
 /* A frame with a record before the wanted one. */
 static const uint8_t frame[] = { 0x68, 0x1b, 0x1b, 0x68, 0x08, 0x05, 0x72, 0x78, 0x56, 0x34, 0x12, 0x24, 0x40, 0x01, 0x07, 0x55, 0x00,
                                  0x00, 0x00, 0x04, 0x6d, 0x12, 0x0b, 0xd3, 0x12, 0x0c, 0x13, 0x78, 0x56, 0x34, 0x12, 0xfa, 0x16 };
+static uint8_t tables[2 * PAVILUKO_TABLE_LEN], text[PAVILUKO_HEAT_TEXT_MAX];
 static size_t log_len, file_len;
 static uint64_t position;
 
@@ -53,10 +54,20 @@ CALL(checkpoint, paviluko_checkpoint(state, out, sizeof out))
 CALL(truncate_at, paviluko_truncate(state, position))
 CALL(recover, paviluko_recover(state, card_file, file_len, card_log, log_len, out, sizeof out))
 
-/* from_bus has no state, and takes less than a thread does to start and to end: it is called below all that. */
+/* These have no reply, and may take less than a thread does to start and to end: they are called below all that. */
 static void from_bus(void)
 {
     said = paviluko_from_bus(frame, sizeof frame, 7, 1, out, sizeof out);
+}
+
+static void plain_table(void)
+{
+    said = paviluko_plain_table(state, out, sizeof out);
+}
+
+static void heat_split(void)
+{
+    said = paviluko_heat_split(tables, sizeof tables, text, sizeof text);
 }
 
 static void no_call(void)
@@ -112,17 +123,18 @@ static void line(const char *name, size_t bytes)
            ((double)bytes - sizeof(paviluko_state) - sizeof(paviluko_reply)) / 1024);
 }
 
-static void line_from_bus(void)
+/* A call that is handed so much by value, and has no reply. */
+static void line_below(const char *name, void (*call)(void), size_t handed)
 {
     below = no_call;
     size_t without = used(call_below);
-    below = from_bus;
-    double kb = (double)(used(call_below) - without) / 1024;
+    below = call;
+    size_t bytes = used(call_below) - without;
     if (said.number != PAVILUKO_TAKEN) {
-        fprintf(stderr, "stack: from_bus was turned down with %d\n", said.number);
+        fprintf(stderr, "stack: %s was turned down with %d\n", name, said.number);
         exit(1);
     }
-    printf("%-34s %6.1f KB %6.1f KB\n", "from_bus", kb, kb);
+    printf("%-34s %6.1f KB %6.1f KB\n", name, (double)bytes / 1024, ((double)bytes - (double)handed) / 1024);
 }
 
 static size_t most(size_t a, size_t b)
@@ -185,6 +197,15 @@ int main(void)
     line("recover, reading a card", step(recover));
     line("recover, the other calls", go_on(&file));
     line("recover, a file", file);
-    line_from_bus();
+    line_below("from_bus", from_bus, 0);
+    line_below("plain_table", plain_table, sizeof state);
+    /* Every meter is heat, and used one more than the one before it. */
+    for (unsigned i = 0; i < 2 * PAVILUKO_METERS; i++) {
+        uint8_t *entry = tables + PAVILUKO_TABLE_LEN / PAVILUKO_METERS * i;
+        entry[16] = (uint8_t)(i / PAVILUKO_METERS * (i % PAVILUKO_METERS));
+        entry[20] = 3;
+        entry[22] = 1;
+    }
+    line_below("heat_split", heat_split, 0);
     return 0;
 }
