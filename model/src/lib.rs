@@ -7,6 +7,7 @@
 pub mod bus;
 pub mod card;
 pub mod cipher;
+pub mod heat;
 pub mod model;
 pub mod params;
 pub mod sealed;
@@ -16,6 +17,7 @@ pub mod vault;
 pub use bus::from_bus;
 pub use card::{Book, Card};
 pub use cipher::Cipher;
+pub use heat::{heat_split, plain_table};
 pub use model::{Due, Held, Listed, Model, Phase, Point, Refusal, Store, Taken};
 pub use params::{Params, Rank};
 pub use table::{Entry, Table, Transaction, Write};
