@@ -1,19 +1,24 @@
 //! The histories on models that are wrong in one place: each must be caught. A wrong device is held against the right
 //! model; where a claim about the whole history breaks, a wrong device is also held against one that is as wrong. A
-//! fault of the card has no other side.
+//! fault of the card has no other side. Wrong heat splits are tried on drawn pairs of tables too.
+
+mod splits;
 
 use std::rc::Rc;
 
 use paviluko_model::bus::sum;
 use paviluko_model::sealed::{AROUND, HEAD_LEN, is_torn, record_at, record_len};
-use paviluko_model::table::number_at;
+use paviluko_model::table::{ENTRY_LEN, number_at};
 use paviluko_model::{Card, Due, Listed, Model, Params, Phase, Refusal, Store, Table};
 
 use crate::bus::{FILLER, Frame, data_len};
 use crate::device::{Answer, Call, Device, Reference, Twin};
+use crate::heat::Seen;
 use crate::raw::Raw;
 use crate::tally::Tally;
 use crate::world::run;
+
+use splits::Wrong;
 
 /// What is wrong.
 #[derive(Clone, Copy, Debug, PartialEq, Eq)]
@@ -80,6 +85,12 @@ enum Fault {
     NoneMissed,
     /// A card whose empty store leaves a torn record.
     TornStays,
+    /// The plain table leaves the entry of a meter without a reading as it was lent.
+    AbsentLeft,
+    /// The plain table leaves the last byte of an entry as it was lent.
+    SpareLeft,
+    /// A wrong heat split.
+    Split(Wrong),
 }
 
 /// The model with a fault.
@@ -221,6 +232,28 @@ impl Device for Broken {
             out[11] = zero;
         }
         answer
+    }
+
+    fn plain_table(&self, out: &mut [u8]) -> Answer {
+        let kept = out.to_vec();
+        let answer = self.twin.plain_table(out);
+        let Ok(taken) = answer else { return answer };
+        for (at, entry) in out[..taken.len].chunks_mut(ENTRY_LEN).enumerate() {
+            let lent = &kept[at * ENTRY_LEN..][..ENTRY_LEN];
+            match self.fault {
+                Fault::AbsentLeft if entry[22] == 0 => entry.copy_from_slice(lent),
+                Fault::SpareLeft if entry[22] == 1 => entry[23] = lent[23],
+                _ => {}
+            }
+        }
+        answer
+    }
+
+    fn split(&self, tables: &[u8], out: &mut [u8]) -> Answer {
+        match self.fault {
+            Fault::Split(wrong) => wrong.split(&self.twin.params, tables, out),
+            _ => self.twin.split(tables, out),
+        }
     }
 
     fn cut(&mut self) {
@@ -436,9 +469,12 @@ fn a_fault_on_one_side_is_caught() {
         Fault::AnyLane,
         Fault::AnyLength,
         Fault::NoneMissed,
+        Fault::AbsentLeft,
+        Fault::SpareLeft,
     ] {
         caught(fault);
     }
+    splits::ALL.iter().for_each(|wrong| caught(Fault::Split(*wrong)));
 }
 
 #[test]
@@ -474,6 +510,59 @@ fn a_fault_on_both_sides_is_caught_by_what_is_known() {
     caught_alone(Fault::AnyLength, "bytes that are no torn record");
     caught_alone(Fault::NoneMissed, "is not as in the book");
     caught_alone(Fault::TornStays, "in service with a torn record on the card");
+    caught_alone(Fault::AbsentLeft, "tables out of states are no two tables");
+    caught_alone(Fault::SpareLeft, "tables out of states are no two tables");
+}
+
+/// Tries drawn pairs of tables, until one fails.
+fn pairs(device: &impl Device, model: &impl Device) -> Option<String> {
+    Seen::default().run(24_000, 1, device, model).err()
+}
+
+#[test]
+fn a_wrong_split_of_a_drawn_pair_is_caught() {
+    for wrong in splits::ALL {
+        let broken = Broken::new(Fault::Split(wrong));
+        assert!(pairs(&broken, &Twin::new(&Params::scope())).is_some(), "{wrong:?} passes");
+    }
+}
+
+/// On both sides: caught by what is known of a kind, and by the request's sentences.
+#[test]
+fn a_wrong_split_on_both_sides_is_caught_by_what_is_known() {
+    for (wrong, says) in [
+        (Wrong::NegativesCount, "19 comes, and should not"),
+        (Wrong::Bits32, "not those of the heat meters with their uses"),
+        (Wrong::AllToOne, "or one more"),
+        (Wrong::LowestMeters, "got a unit"),
+        (Wrong::LargestUses, "got a unit"),
+        (Wrong::HigherFirst, "the higher got the unit"),
+        (Wrong::NoLine, "not those of the heat meters with their uses"),
+        (Wrong::AnyChange, "18 comes, and should not"),
+        (Wrong::AbsentIsChange, "18 comes, and should not"),
+        (Wrong::BytesBehind, "0 comes, and should not"),
+        (Wrong::NoNewline, "the last line has no end"),
+        (Wrong::TotalFirst, "19 comes, and should not"),
+        (Wrong::Nearest, "the shares add up to"),
+        (Wrong::HeatAlone, "(code 0): "),
+        (Wrong::RoomFirst, "with room 0 comes"),
+        (Wrong::PartOfText, "is not as it was lent"),
+        (Wrong::TurnedRound, "not those of the heat meters with their uses"),
+    ] {
+        let broken = || Broken::new(Fault::Split(wrong));
+        let Some(failure) = pairs(&broken(), &broken()) else { panic!("{wrong:?} on both sides passes") };
+        assert!(failure.contains(says), "{wrong:?} on both sides: {failure}");
+    }
+}
+
+/// The right model against itself, on drawn pairs: nothing fails, and everything comes up.
+#[test]
+fn the_model_agrees_with_itself_on_pairs() {
+    let mut seen = Seen::default();
+    let twin = Twin::new(&Params::scope());
+    assert_eq!(seen.run(24_000, 1, &twin, &twin), Ok(()));
+    println!("{}", seen.table());
+    assert_eq!(seen.missing(), Vec::<String>::new());
 }
 
 /// The right model against itself: nothing fails, and everything comes up.

@@ -3,7 +3,7 @@
 use std::fmt;
 use std::rc::Rc;
 
-use paviluko_model::{Card, Model, Params, Refusal, Store, Taken, Vault, from_bus};
+use paviluko_model::{Card, Model, Params, Refusal, Store, Taken, Vault, from_bus, heat_split, plain_table};
 
 use crate::bus::Frame;
 use crate::raw::Raw;
@@ -24,15 +24,30 @@ pub enum Call {
     Recover { checkpoint: Rc<[u8]>, log: Rc<[u8]>, room: usize },
 }
 
-/// The functions' names: the operations in the order of `Call::operation`, and what takes no state behind them.
-pub const FUNCTIONS: [&str; 9] =
-    ["Load", "Accept", "Seal", "Commit", "Point", "Checkpoint", "Truncate", "Recover", "from_bus"];
+/// The functions' names: the operations in the order of `Call::operation`, and what changes no state behind them.
+pub const FUNCTIONS: [&str; 11] = [
+    "Load",
+    "Accept",
+    "Seal",
+    "Commit",
+    "Point",
+    "Checkpoint",
+    "Truncate",
+    "Recover",
+    "from_bus",
+    "plain_table",
+    "heat_split",
+];
 
 /// The place of `from_bus` among them.
 pub const FROM_BUS: usize = 8;
+/// The place of `plain_table`.
+pub const PLAIN_TABLE: usize = 9;
+/// The place of `heat_split`.
+pub const HEAT_SPLIT: usize = 10;
 
 /// The greatest number.
-pub const LAST: u8 = 17;
+pub const LAST: u8 = 19;
 
 /// The numbers that each function can return.
 pub const NUMBERS: [&[u8]; FUNCTIONS.len()] = [
@@ -45,6 +60,8 @@ pub const NUMBERS: [&[u8]; FUNCTIONS.len()] = [
     &[1, 14],
     &[1, 3, 8, 9, 10, 11, 12, 13],
     &[3, 4, 16, 17],
+    &[3],
+    &[3, 4, 18, 19],
 ];
 
 impl Call {
@@ -107,6 +124,12 @@ pub trait Device {
     /// `from_bus`, which takes no state: a transaction of a frame, whatever the state is, and where there is none.
     fn hear(&self, frame: &Frame, out: &mut [u8]) -> Answer;
 
+    /// `plain_table`: the bytes of the state's table. Called where there is a state, whatever it is.
+    fn plain_table(&self, out: &mut [u8]) -> Answer;
+
+    /// `heat_split`, which takes no state: what heat meters used between two plain tables, and their shares.
+    fn split(&self, tables: &[u8], out: &mut [u8]) -> Answer;
+
     /// Loses the state.
     fn cut(&mut self);
 
@@ -118,6 +141,28 @@ pub trait Device {
 
     /// What in its state is not as in the model's, if anything.
     fn differs(&self, model: Option<&Model>) -> Option<String>;
+}
+
+/// Bytes to lend, from the first one on: no two neighbours are alike.
+pub fn lent(first: u8, room: usize) -> impl Iterator<Item = u8> {
+    (0..room).map(move |i| first.wrapping_add((i % 251) as u8))
+}
+
+/// Compares two answers, and what was put out; behind that, which is nothing where the call was refused, all is as it
+/// was lent.
+pub fn same_answers(answer: &Answer, expected: &Answer, lent: &[u8], out: &[u8], other: &[u8]) -> Result<(), String> {
+    if answer != expected {
+        return Err("the answers differ".to_string());
+    }
+    if let Some(at) = (0..out.len()).find(|&i| out[i] != other[i]) {
+        let (a, b) = (out[at], other[at]);
+        return Err(format!("the outputs differ at byte {at}: {a} and {b}"));
+    }
+    let put = answer.as_ref().map_or(0, |taken| taken.len);
+    match (put..out.len()).find(|&i| out[i] != lent[i]) {
+        Some(at) => Err(format!("byte {at} of the output, behind the {put} put out, is not as it was lent")),
+        None => Ok(()),
+    }
 }
 
 /// What a device is held against.
@@ -165,6 +210,16 @@ impl Device for Twin {
     fn hear(&self, frame: &Frame, out: &mut [u8]) -> Answer {
         let len = from_bus(&self.params, &frame.bytes, frame.meter, frame.stamp, out)?;
         Ok(Taken { store: None, len })
+    }
+
+    fn plain_table(&self, out: &mut [u8]) -> Answer {
+        // There is a state.
+        let model = self.model.as_ref().ok_or(Refusal { number: 0, value: 0 })?;
+        Ok(Taken { store: None, len: plain_table(&model.table, out)? })
+    }
+
+    fn split(&self, tables: &[u8], out: &mut [u8]) -> Answer {
+        Ok(Taken { store: None, len: heat_split(&self.params, tables, out)? })
     }
 
     fn cut(&mut self) {

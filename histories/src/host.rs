@@ -57,6 +57,10 @@ pub struct Host {
     pub files: Vec<Rc<[u8]>>,
     /// Cards as they were once.
     pub snapshots: Vec<Card>,
+    /// Plain tables of earlier states, the last one behind.
+    pub tables: Vec<Rc<[u8]>>,
+    /// Draws what is done with them, so that all else is drawn as without them.
+    pub heat: Rng,
     /// The transaction that came off the bus last, until it is accepted.
     pub off_bus: Option<Vec<u8>>,
     /// A long log was built, and is to be recovered.
@@ -87,6 +91,8 @@ impl Host {
             records: Vec::new(),
             files: Vec::new(),
             snapshots: Vec::new(),
+            tables: Vec::new(),
+            heat: Rng::new(!seed),
             off_bus: None,
             filled: false,
             tears,
@@ -138,6 +144,14 @@ impl Host {
     /// Whether a long log is being built.
     pub fn filling(&self) -> bool {
         self.style == Style::Long && !self.filled
+    }
+
+    /// Keeps a plain table, in place of some other where there are many.
+    pub fn keep_table(&mut self, table: Rc<[u8]>) {
+        if self.tables.len() >= 6 {
+            self.tables.remove(self.heat.index(5));
+        }
+        self.tables.push(table);
     }
 
     /// Some record that was put out.

@@ -4,6 +4,7 @@ use std::fmt::Write;
 
 use crate::bus::{KINDS, Said};
 use crate::device::{Answer, FROM_BUS, FUNCTIONS, LAST, NUMBERS};
+use crate::heat::Told;
 
 /// More ties of two lanes than so many have to come up.
 const TIES: u64 = 1000;
@@ -53,6 +54,11 @@ pub struct Tally {
     pub one_lane: [u64; 2],
     /// What recoveries read of the second of the entry shown: of another lane, and of its lane with another number.
     pub recovered_ties: [u64; 2],
+    /// Lines of all heat splits, the most of one, units handed out, and splits in which a tie was broken.
+    pub lines: usize,
+    pub most_lines: usize,
+    pub units: usize,
+    pub broken_ties: u64,
     /// Records and files put out, by function: into just the room that they need, and into more.
     pub put_out: [[u64; 2]; FUNCTIONS.len()],
 }
@@ -84,6 +90,14 @@ impl Tally {
             }
         }
         self.frames[kind] += 1;
+    }
+
+    /// Counts the text of a heat split.
+    pub fn split(&mut self, told: &Told) {
+        self.lines += told.lines;
+        self.most_lines = self.most_lines.max(told.lines);
+        self.units += told.units;
+        self.broken_ties += u64::from(told.equal_uses || told.equal_remainders);
     }
 
     /// Ties of two lanes that a Commit decided.
@@ -126,6 +140,8 @@ impl Tally {
             (self.one_lane[0], "no write won a tie of one lane"),
             (self.recovered_ties[0], "no recovery read a tie of two lanes"),
             (self.recovered_ties[1], "no recovery read a tie of one lane"),
+            (self.units as u64, "no heat split handed a unit out"),
+            (self.broken_ties, "no heat split broke a tie"),
         ];
         if self.ties() <= TIES {
             out.push(format!("only {} ties of two lanes, where more than {TIES} are wanted", self.ties()));
@@ -226,6 +242,12 @@ impl Tally {
             self.one_lane[1],
             self.recovered_ties[0],
             self.recovered_ties[1]
+        );
+        let _ = writeln!(
+            out,
+            "heat splits between tables of these histories: {} lines, at most {} of a split; {} units handed out, {} \
+             with ties broken",
+            self.lines, self.most_lines, self.units, self.broken_ties
         );
         let sealed = SEALING.map(|at| format!("{} {} and {}", FUNCTIONS[at], self.put_out[at][0], self.put_out[at][1]));
         let _ = writeln!(

@@ -8,8 +8,9 @@ use paviluko_model::table::number_at;
 use paviluko_model::{Phase, Store, Table, Taken, Vault, sealed};
 
 use crate::bus::{Heard, KINDS, Said};
-use crate::device::{Answer, Call, Device, Reference};
+use crate::device::{Answer, Call, Device, HEAT_SPLIT, PLAIN_TABLE, Reference, lent, same_answers};
 use crate::draw::{self, Drawn, Event};
+use crate::heat;
 use crate::host::{Host, Style};
 use crate::raw::Raw;
 use crate::tally::Tally;
@@ -74,7 +75,7 @@ pub fn run<D: Device, R: Reference>(
             break;
         }
         world.tally.events += 1;
-        world.step().map_err(|what| {
+        world.step().and_then(|()| world.look_at_tables()).map_err(|what| {
             format!(
                 "seed {seed}, event {index}, {style:?}: {what}\n\
                  to run it alone: histories --histories 1 --events {events} --seed {seed}"
@@ -175,30 +176,103 @@ impl<D: Device, R: Reference> World<'_, D, R> {
         Ok(())
     }
 
-    /// Lends both so much room, with the same bytes in it, no two neighbours alike.
+    /// Now and then takes the plain table of the state, and splits the heat between one kept from earlier and the
+    /// present one. Neither changes anything; they are drawn by numbers of their own.
+    fn look_at_tables(&mut self) -> Result<(), String> {
+        if self.reference.model().is_some() && self.host.heat.permille(60) {
+            let room = match self.host.heat.below(10) {
+                0 => self.host.heat.index(heat::TABLE_LEN),
+                1 => heat::TABLE_LEN - 1,
+                2 => heat::TABLE_LEN + 1 + self.host.heat.index(100),
+                _ => heat::TABLE_LEN,
+            };
+            if let Some(table) = self.plain_table(room)? {
+                self.host.keep_table(table);
+            }
+        }
+        if self.host.tables.is_empty() || !self.host.heat.permille(60) {
+            return Ok(());
+        }
+        // Without a state the present table is the one that was kept last.
+        let now = match self.reference.model() {
+            Some(_) => self.plain_table(heat::TABLE_LEN)?,
+            None => self.host.tables.last().cloned(),
+        };
+        now.map_or(Ok(()), |now| self.split(&now))
+    }
+
+    /// Takes the plain table of both and compares: the table, if there was room for it.
+    fn plain_table(&mut self, room: usize) -> Result<Option<Rc<[u8]>>, String> {
+        let first = self.host.heat.any() as u8;
+        self.lend_from(first, room);
+        let answer = self.device.plain_table(&mut self.out);
+        let expected = self.reference.plain_table(&mut self.expected);
+        self.tally.count(PLAIN_TABLE, &expected);
+        let told =
+            |what: &str| format!("{what}\ncall: plain_table, room {room}\ndevice: {answer:?}\nmodel: {expected:?}");
+        self.same_answers(&answer, &expected).map_err(|what| told(&what))?;
+        match answer {
+            Ok(Taken { store: None, len: heat::TABLE_LEN }) => Ok(Some(Rc::from(&self.out[..heat::TABLE_LEN]))),
+            Err(refusal)
+                if (refusal.number, refusal.value) == (3, heat::TABLE_LEN as u64) && room < heat::TABLE_LEN =>
+            {
+                Ok(None)
+            }
+            _ => Err(told("plain_table does not put out a table, and does not say that it has no room")),
+        }
+    }
+
+    /// Splits the heat between a table kept from earlier and the present one, compares, and holds what comes of it to
+    /// the request's sentences.
+    fn split(&mut self, now: &Rc<[u8]>) -> Result<(), String> {
+        let Host { heat: rng, params, tables, .. } = &mut self.host;
+        let Some(kept) = rng.pick(tables).cloned() else { return Ok(()) };
+        let own = heat::own(rng, params, &kept, now);
+        let first = rng.any() as u8;
+        self.lend_from(first, own.room);
+        let answer = self.device.split(&own.bytes, &mut self.out);
+        let expected = self.reference.split(&own.bytes, &mut self.expected);
+        self.tally.count(HEAT_SPLIT, &expected);
+        let told = |what: &str| {
+            let (len, room) = (own.bytes.len(), own.room);
+            format!("{what}\ncall: heat_split of {len} bytes, room {room}\ndevice: {answer:?}\nmodel: {expected:?}")
+        };
+        self.same_answers(&answer, &expected).map_err(|what| told(&what))?;
+        match answer {
+            Ok(Taken { store: None, len }) if own.twice => {
+                Err(told(&format!("a table and itself have a text, {len} bytes")))
+            }
+            Ok(Taken { store: None, len }) => {
+                let split = heat::held(&own.bytes, &self.out[..len]).map_err(|what| told(&what))?;
+                self.tally.split(&split);
+                Ok(())
+            }
+            Ok(_) => Err(told("a split names a store")),
+            Err(refusal) if refusal.number == 4 && own.whole && self.host.bound() => {
+                Err(told("tables out of states are no two tables"))
+            }
+            Err(refusal) if refusal.number == 18 && own.twice => Err(told("a table and itself have different codes")),
+            Err(_) => Ok(()),
+        }
+    }
+
+    /// Lends both so much room, with the same bytes in it.
     fn lend(&mut self, room: usize) {
         let first = self.host.rng.any() as u8;
+        self.lend_from(first, room);
+    }
+
+    /// The same from a first byte on.
+    fn lend_from(&mut self, first: u8, room: usize) {
         self.lent.clear();
-        self.lent.extend((0..room).map(|i| first.wrapping_add((i % 251) as u8)));
+        self.lent.extend(lent(first, room));
         self.out.clone_from(&self.lent);
         self.expected.clone_from(&self.lent);
     }
 
-    /// Compares two answers, and what was lent; behind what was put out, which is nothing where the call was refused, it is as
-    /// it came.
+    /// Compares two answers, and what was lent.
     fn same_answers(&self, answer: &Answer, expected: &Answer) -> Result<(), String> {
-        if answer != expected {
-            return Err("the answers differ".to_string());
-        }
-        if let Some(at) = (0..self.out.len()).find(|&i| self.out[i] != self.expected[i]) {
-            let (a, b) = (self.out[at], self.expected[at]);
-            return Err(format!("the outputs differ at byte {at}: {a} and {b}"));
-        }
-        let put = answer.as_ref().map_or(0, |taken| taken.len);
-        match (put..self.out.len()).find(|&i| self.out[i] != self.lent[i]) {
-            Some(at) => Err(format!("byte {at} of the output, behind the {put} put out, is not as it was lent")),
-            None => Ok(()),
-        }
+        same_answers(answer, expected, &self.lent, &self.out, &self.expected)
     }
 
     /// Calls both, compares, and keeps the host's side.

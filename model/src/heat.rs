@@ -1,8 +1,8 @@
-//! The yearly heat split: from a table at the start of a year and one at its end, what each heat meter used and its share
-//! of the house in millionths.
+//! The yearly heat split: from a table at the start of a year and one at its end, what each heat meter used and its
+//! share of the house in millionths.
 //!
-//! A plain table is the text that a checkpoint seals: `Table::text` makes it and `Table::read` reads it. What the request
-//! leaves open is said where it is decided.
+//! A plain table is the text that a checkpoint seals: `Table::text` makes it and `Table::read` reads it. What the
+//! request leaves open is said where it is decided.
 
 use std::cmp::Reverse;
 
@@ -25,8 +25,8 @@ pub struct Part {
     pub share: i128,
 }
 
-/// A table as its plain bytes, put at the start of `out`: their length. A table of a handed state, whose codes and lanes
-/// may be any, has them too.
+/// A table as its plain bytes, put at the start of `out`: their length. A table of a handed state, whose codes and
+/// lanes may be any, has them too.
 pub fn plain_table(table: &Table, out: &mut [u8]) -> Result<usize, Refusal> {
     put(&table.text(), out)
 }
@@ -51,8 +51,8 @@ fn text(params: &Params, tables: &[u8]) -> Result<String, Refusal> {
     Ok(TITLE.to_string() + &lines.iter().map(line).collect::<String>())
 }
 
-/// The two tables that the bytes are, if they are two and no byte more. All of both is looked at, meters that are not for
-/// heat too.
+/// The two tables that the bytes are, if they are two and no byte more. All of both is looked at, meters that are not
+/// for heat too.
 pub fn two_tables(params: &Params, bytes: &[u8]) -> Option<(Table, Table)> {
     let (start, end) = bytes.split_at_checked(params.meters * ENTRY_LEN)?;
     Some((Table::read(params, start)?, Table::read(params, end)?))
