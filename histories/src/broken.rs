@@ -540,7 +540,7 @@ fn a_wrong_split_on_both_sides_is_caught_by_what_is_known() {
         (Wrong::NoLine, "not those of the heat meters with their uses"),
         (Wrong::AnyChange, "18 comes, and should not"),
         (Wrong::AbsentIsChange, "18 comes, and should not"),
-        (Wrong::BytesBehind, "0 comes, and should not"),
+        (Wrong::BytesBehind, "(a byte more, or more): "),
         (Wrong::NoNewline, "the last line has no end"),
         (Wrong::TotalFirst, "19 comes, and should not"),
         (Wrong::Nearest, "the shares add up to"),

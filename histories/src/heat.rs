@@ -197,6 +197,9 @@ impl Seen {
         match answer {
             Ok(Taken { store: None, len }) => {
                 let told = held(bytes, &out[..len])?;
+                if KINDS[*kind].units.is_some_and(|[low, high]| !(low..=high).contains(&told.units)) {
+                    return Err(format!("{} units were missing, and should not", told.units));
+                }
                 self.count(&told, len);
                 for room in [len, len + 1 + rng.index(99), len - 1, 0, rng.index(len)] {
                     let (again, put) = split_alike(rng, bytes, room, device, model)?;

@@ -19,7 +19,7 @@ impl Library {
     }
 }
 
-// Declared here and not with the rest of the C boundary, in the host's crate, which has no use for them.
+// The host's crate declares the rest of the C boundary.
 unsafe extern "C" {
     fn paviluko_heat_split(tables: *const u8, len: usize, out: *mut u8, room: usize) -> ffi::Said;
     fn paviluko_plain_table(s: ffi::State, out: *mut u8, room: usize) -> ffi::Said;

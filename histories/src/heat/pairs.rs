@@ -4,7 +4,7 @@
 use paviluko_model::table::ENTRY_LEN;
 use paviluko_model::{Entry, Params, Table};
 
-use super::{HEAT, METERS, TABLE_LEN};
+use super::{HEAT, MANY, METERS, TABLE_LEN};
 use crate::rng::Rng;
 use crate::values::{a_stamp, lane};
 
@@ -32,6 +32,8 @@ pub struct Kind {
     pub name: &'static str,
     /// The number that must come, 0 for a text; nothing where that is not known.
     known: Option<u8>,
+    /// How many units must be missing, at least and at most, where that is known.
+    pub units: Option<[usize; 2]>,
     pub drawn: Drawn,
 }
 
@@ -70,39 +72,44 @@ const PRESENT: [Place; 3] = [Place::Listed, Place::Other, Place::HeatAlone];
 const ABSENT: [Place; 3] = [Place::Nobody, Place::LacksHeat, Place::LacksOther];
 
 const fn taken(name: &'static str, drawn: Drawn) -> Kind {
-    Kind { name, known: Some(0), drawn }
+    Kind { name, known: Some(0), units: None, drawn }
+}
+
+/// Taken, with so many units missing.
+const fn missing(units: [usize; 2], name: &'static str, drawn: Drawn) -> Kind {
+    Kind { name, known: Some(0), units: Some(units), drawn }
 }
 
 const fn refused(number: u8, name: &'static str, drawn: Drawn) -> Kind {
-    Kind { name, known: Some(number), drawn }
+    Kind { name, known: Some(number), units: None, drawn }
 }
 
 const fn unknown(name: &'static str, drawn: Drawn) -> Kind {
-    Kind { name, known: None, drawn }
+    Kind { name, known: None, units: None, drawn }
 }
 
 /// All kinds of pairs, the good one first.
 pub const KINDS: [Kind; 51] = [
     taken("good", Uses(good)),
-    taken("the request's example, at any meters", Uses(|_| vec![1, 1, -2, 1])),
+    missing([1, 1], "the request's example, at any meters", Uses(|_| vec![1, 1, -2, 1])),
     taken("equal uses", Uses(equal_uses)),
     taken("equal remainders of different uses", Uses(equal_remainders)),
     taken("differences beyond 32 bits", Uses(beyond_32_bits)),
     taken("readings at their ends", OfHouse(ends)),
-    taken("one heat meter", Uses(|rng| vec![above_zero(rng)])),
+    missing([0, 0], "one heat meter", Uses(|rng| vec![above_zero(rng)])),
     taken("256 heat meters", Uses(|rng| with_one_above(rng, METERS, any_use))),
-    taken("256 equal uses", Uses(|rng| vec![above_zero(rng); METERS])),
+    missing([64, 64], "256 equal uses", Uses(|rng| vec![above_zero(rng); METERS])),
     taken(
         "256 heat meters that use all that they can",
         Uses(|rng| many(rng, METERS, |rng| MOST - rng.below(3) as i64)),
     ),
     taken("the longest text", Uses(|_| [vec![MOST; 52], vec![1_000_000_000; METERS - 52]].concat())),
-    taken("a total of 1", Uses(|rng| with_others(rng, vec![1]))),
-    taken("no unit missing", Uses(none_missing)),
-    taken("one unit missing", Uses(one_missing)),
-    taken("many units missing", Uses(|rng| many(rng, 200, above_zero))),
+    missing([0, 0], "a total of 1", Uses(|rng| with_others(rng, vec![1]))),
+    missing([0, 0], "no unit missing", Uses(none_missing)),
+    missing([1, 1], "one unit missing", Uses(one_missing)),
+    missing([MANY, 199], "many units missing", Uses(|rng| many(rng, 200, |rng| 1 + rng.below(30_000) as i64))),
     taken("uses of less than a unit", Uses(less_than_a_unit)),
-    taken("uses of 0 and below beside one above", Uses(one_above)),
+    missing([0, 0], "uses of 0 and below beside one above", Uses(one_above)),
     taken("meters 0 and 255", OfHouse(first_and_last)),
     taken("a change among the other codes", OfHouse(other_change)),
     taken("heat at the start, absent at the end", OfHouse(|rng, house| house.put_alone(rng, 0, HEAT))),
