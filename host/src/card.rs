@@ -322,7 +322,7 @@ impl Card {
     pub fn copy_to(&self, folder: &Path, s: u64) -> Result<(), Fault> {
         let (above, name) = files::place(folder)?;
         if above.has(name) {
-            return Err(Fault::damaged(folder, "there is something of that name already"));
+            return Err(Fault::damaged(folder, files::TAKEN_NAME));
         }
         // A name of its own until it is complete; what a cut leaves of it is in nobody's way.
         let unfinished = format!(".{}.{}.new", name.to_string_lossy(), std::process::id());

@@ -64,7 +64,7 @@ pub struct Taken {
 /// Why a call was refused: the number on the display, and the value returned with it (0 where there is none).
 #[derive(Clone, Copy, Debug, PartialEq, Eq)]
 pub struct Refusal {
-    /// 1 to 17; 16 and 17 are those of `from_bus` alone.
+    /// 1 to 19; 16 and 17 are those of `from_bus` alone, 18 and 19 those of `heat_split`.
     pub number: u8,
     /// 3: the length needed or allowed; 9, 10, 11: an offset; 13: a lane.
     pub value: u64,
@@ -345,6 +345,15 @@ impl Collector {
     /// All meters with a reading, in order of meter.
     pub fn readings(&self) -> Vec<(u8, Reading)> {
         (0..METERS).filter_map(|m| self.reading(m as u8).map(|r| (m as u8, r))).collect()
+    }
+
+    /// The table in plain: the 6,144 bytes that a checkpoint has sealed, at the start of the output; those behind it stay. It is
+    /// the table of any state, and none that a start has judged while the collector is cold. Names no store. Refuses with 3.
+    #[inline(never)]
+    pub fn plain_table(&self, out: &mut [u8]) -> Result<Taken, Refusal> {
+        // SAFETY: the output is written within its length alone.
+        let answer = unsafe { ffi::paviluko_plain_table(*self.state, out.as_mut_ptr(), out.len()) };
+        said(&answer)
     }
 
     /// The 27 numbers in the state.

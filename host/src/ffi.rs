@@ -205,6 +205,8 @@ unsafe extern "C" {
     pub fn paviluko_records(s: State) -> u64;
     pub fn paviluko_points(s: State) -> u64;
     pub fn paviluko_from_bus(frame: *const u8, len: usize, meter: u16, stamp: u64, out: *mut u8, room: usize) -> Said;
+    pub fn paviluko_plain_table(s: State, out: *mut u8, room: usize) -> Said;
+    pub fn paviluko_heat_split(tables: *const u8, len: usize, out: *mut u8, room: usize) -> Said;
 }
 
 /// The header's sizes and offsets.

@@ -14,6 +14,8 @@ use crate::dir::Dir;
 
 /// How the name of a temporary file ends; it begins with a dot.
 const UNFINISHED: &str = ".new";
+/// What is said of a name that something has already, where nothing is replaced.
+pub const TAKEN_NAME: &str = "there is something of that name already";
 
 /// Whether a store waits until the disk has it.
 #[derive(Clone, Copy, Debug, PartialEq, Eq)]
@@ -142,6 +144,39 @@ pub fn put(folder: &Dir, name: &str, bytes: &[u8], mode: u32, disk: Disk) -> Res
         let _ = folder.remove(&first);
         Fault::unusable(&folder.path().join(name))(error)
     })
+}
+
+/// Writes a file that is not there yet, whole or not at all: it has its name once it is complete, and is on the disk.
+pub fn write_new(path: &Path, bytes: &[u8], mode: u32, disk: Disk) -> Result<(), Fault> {
+    if path.is_dir() {
+        return Err(Fault::unusable(path)(io::ErrorKind::IsADirectory.into()));
+    }
+    if path.as_os_str().as_bytes().ends_with(b"/") {
+        return Err(Fault::damaged(path, "this is a folder's name, and no file's"));
+    }
+    let (above, name) = place(path)?;
+    if above.has(name) {
+        return Err(Fault::damaged(path, TAKEN_NAME));
+    }
+    // A name of its own until it is complete; what a cut leaves of it is in nobody's way.
+    let unfinished = format!(".{}.{}{UNFINISHED}", name.to_string_lossy(), std::process::id());
+    let write = || -> io::Result<()> {
+        let mut file = above.create(&unfinished, mode)?;
+        step()?;
+        file.write_all(bytes)?;
+        match disk {
+            Disk::Wait => file.sync_all()?,
+            Disk::Quick => {}
+        }
+        drop(file);
+        above.rename(&unfinished, name)
+    };
+    write().map_err(|error| {
+        // What is there of it takes up room.
+        let _ = above.remove(&unfinished);
+        Fault::unusable(path)(error)
+    })?;
+    above.settle(disk)
 }
 
 /// Whether a file of a length can be written in a folder. Nothing is left of it, but what a cut leaves.

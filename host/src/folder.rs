@@ -127,6 +127,19 @@ impl BoxFolder {
         files::replace(&self.dir, CARD, format!("{name}\n").as_bytes(), OPEN, self.disk)
     }
 
+    /// Writes a file for somebody outside: one that is not there yet, and lies neither in the box's folder nor on its card.
+    pub fn write_out(&self, path: &Path, bytes: &[u8]) -> Result<(), Fault> {
+        let above = path.parent().filter(|above| !above.as_os_str().is_empty()).unwrap_or(Path::new("."));
+        // A folder that is not there is no place for a file, and that is said when the file is written.
+        if let Ok(above) = fs::canonicalize(above) {
+            let own = |folder: &Path| fs::canonicalize(folder).is_ok_and(|own| above.starts_with(own));
+            if own(self.path()) || self.card().is_ok_and(|card| own(card.folder())) {
+                return Err(Fault::damaged(path, "the box keeps its own files there: write it elsewhere"));
+            }
+        }
+        files::write_new(path, bytes, OPEN, self.disk)
+    }
+
     /// Where it is.
     pub fn path(&self) -> &Path {
         self.dir.path()
@@ -239,6 +252,41 @@ mod tests {
         drop(folder);
         assert!(BoxFolder::open(&place, Disk::Quick).is_ok());
         assert_eq!(fs::metadata(&place).expect("there").mode() & 0o777, PRIVATE_FOLDER);
+    }
+
+    #[test]
+    fn what_is_written_out_replaces_nothing_and_is_none_of_the_box_s() {
+        let scratch = Scratch::new();
+        let place = scratch.path().join("box");
+        BoxFolder::create(&place, Disk::Quick).expect("made");
+        let folder = BoxFolder::open(&place, Disk::Quick).expect("opened");
+        let outside = Card::create(&scratch.path().join("outside"), Disk::Quick).expect("made");
+        folder.put_in(outside.folder()).expect("put in");
+        let out = scratch.path().join("table");
+        folder.write_out(&out, b"first").expect("written");
+        std::os::unix::fs::symlink("nowhere", scratch.path().join("link")).expect("made");
+        fs::create_dir(scratch.path().join("beside")).expect("made");
+        for (name, said) in [
+            ("table", files::TAKEN_NAME),
+            ("link", files::TAKEN_NAME),
+            ("beside", "is a folder"),
+            ("beside/", "is a folder"),
+            ("new/", "this is a folder's name, and no file's"),
+            ("nowhere/table", "not found"),
+            ("table/table", "not a folder"),
+            ("box/table", "the box keeps its own files there"),
+            ("box/key", "the box keeps its own files there"),
+            ("box/card-1/table", "the box keeps its own files there"),
+            ("beside/../outside/table", "the box keeps its own files there"),
+        ] {
+            let fault = folder.write_out(&scratch.path().join(name), b"second").expect_err(name);
+            assert!(fault.to_string().contains(said), "{fault}");
+        }
+        assert_eq!(fs::read(&out).expect("read"), b"first");
+        let mut names: Vec<_> =
+            fs::read_dir(scratch.path()).expect("there").map(|e| e.expect("read").file_name()).collect();
+        names.sort();
+        assert_eq!(names, ["beside", "box", "link", "outside", "table"]);
     }
 
     #[test]

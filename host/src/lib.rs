@@ -6,9 +6,10 @@
 //! For the bench there is a whole box in a folder: a vault kept in a file (`vault`), a card kept in a folder (`card`), and a
 //! runner that carries out exactly the one named store before the next call (`runner`). The program `paviluko` runs it.
 //!
-//! `bus` has the function that makes a transaction of a meter's reply on the wired bus, and what such a frame says.
+//! `bus` has the function that makes a transaction of a meter's reply on the wired bus, and what such a frame says. `heat` has the one
+//! that splits a year's heat from two plain tables, and what a split and such tables say.
 //!
-//! A module uses only those named before it: `limits`, `ffi`, `words`, `secret`, `collector`, `bus`, `files` with `dir`, `vault`,
+//! A module uses only those named before it: `limits`, `ffi`, `words`, `secret`, `collector`, `bus`, `heat`, `files` with `dir`, `vault`,
 //! `card`, `folder`, `runner`; `transaction` uses `limits`, and `identity`, which says what the library is, `ffi`.
 //!
 //! ```no_run
@@ -33,6 +34,7 @@ pub mod dir;
 pub mod ffi;
 pub mod files;
 pub mod folder;
+pub mod heat;
 pub mod identity;
 pub mod limits;
 pub mod runner;
@@ -43,7 +45,8 @@ pub mod words;
 
 pub use bus::from_bus;
 pub use collector::{Collector, Due, Numbers, Phase, Reading, Refusal, Store, Taken};
+pub use heat::heat_split;
 pub use limits::{
-    COUNTER_MAX, FILE_LEN, FRAME_LEN, HEAD_LEN, KEY_LEN, LANES, LOG_LEN, METERS, ONE_WRITE_LEN, POINTS, RECORD_LEN,
-    RECORDS, SEAL_LEN, STAMP_LEN, TRANSACTION_LEN, WRITE_LEN, WRITES,
+    COUNTER_MAX, ENTRY_LEN, FILE_LEN, FRAME_LEN, HEAD_LEN, HEAT_TEXT_LEN, KEY_LEN, LANES, LOG_LEN, METERS,
+    ONE_WRITE_LEN, POINTS, RECORD_LEN, RECORDS, SEAL_LEN, STAMP_LEN, TABLE_LEN, TRANSACTION_LEN, WRITE_LEN, WRITES,
 };

@@ -26,8 +26,14 @@ pub const HEAD_LEN: usize = 20;
 pub const SEAL_LEN: usize = HEAD_LEN + 16 + 4;
 /// Bytes of the longest record.
 pub const RECORD_LEN: usize = TRANSACTION_LEN + SEAL_LEN;
+/// Bytes of a meter's entry in a plain table.
+pub const ENTRY_LEN: usize = 24;
+/// Bytes of a plain table, which is the text of a checkpoint.
+pub const TABLE_LEN: usize = METERS * ENTRY_LEN;
 /// Bytes of a checkpoint file.
-pub const FILE_LEN: usize = METERS * 24 + SEAL_LEN;
+pub const FILE_LEN: usize = TABLE_LEN + SEAL_LEN;
+/// Room for any text of a heat split: a heading, and at most 24 bytes for each meter.
+pub const HEAT_TEXT_LEN: usize = 17 + METERS * 24;
 /// Bytes of the longest log that Recover takes.
 pub const LOG_LEN: usize = 262_144;
 /// Bytes of the longest frame off the bus.

@@ -217,10 +217,15 @@ impl Runner {
 
     /// The table that a start would come to, without one: no store is done, and vault and card stay as they are.
     pub fn look(&mut self) -> Result<Vec<(u8, Reading)>, Stop> {
+        self.look_at(Collector::readings)
+    }
+
+    /// What can be seen of the collector that a start would come to, in the same way.
+    pub fn look_at<T>(&mut self, see: impl FnOnce(&Collector) -> T) -> Result<T, Stop> {
         let card = self.card()?;
         let read = self.read(&card);
-        let collector = self.collector.take();
-        read.map(|_| collector.map(|collector| collector.readings()).unwrap_or_default())
+        let collector = self.collector.take().ok_or(Stop::Off);
+        read.and_then(|_| collector.map(|collector| see(&collector)))
     }
 
     /// Load, and Recover's first call on what the card hands over: the store that it names, how many records there are, and a

@@ -6,7 +6,7 @@ use std::fmt;
 /// A number of the display.
 #[derive(Clone, Copy, Debug, PartialEq, Eq)]
 pub struct Sentence {
-    /// 1 to 17.
+    /// 1 to 19.
     pub number: u8,
     /// What it means, without a full stop.
     pub means: &'static str,
@@ -20,6 +20,20 @@ impl fmt::Display for Sentence {
         write!(to, "{}, {}. {}", self.number, self.means, self.then)
     }
 }
+
+/// 4 where a transaction is turned down: the first of its two causes.
+pub const NO_TRANSACTION: Sentence = Sentence {
+    number: 4,
+    means: "this is no transaction",
+    then: "Give 1 to 16 readings, meters 0 to 255 in rising order, each with a code of 1 to 4.",
+};
+
+/// 4 where a heat split is turned down: the second.
+pub const NO_TABLE: Sentence = Sentence {
+    number: 4,
+    means: "this is no plain table",
+    then: "Give two files that table --plain wrote, the start's first.",
+};
 
 /// 7 where a transaction is turned down: the first of its two causes.
 pub const FULL_OF_RECORDS: Sentence = Sentence {
@@ -36,7 +50,7 @@ pub const FULL_OF_POINTS: Sentence = Sentence {
 };
 
 /// Every number, in order.
-pub const SENTENCES: [Sentence; 17] = [
+pub const SENTENCES: [Sentence; 19] = [
     Sentence {
         number: 1,
         means: "the box is not ready for this: it is not in service, or another store is due",
@@ -54,8 +68,8 @@ pub const SENTENCES: [Sentence; 17] = [
     },
     Sentence {
         number: 4,
-        means: "this is no transaction",
-        then: "Give 1 to 16 readings, meters 0 to 255 in rising order, each with a code of 1 to 4.",
+        means: "this is no transaction, or no plain table",
+        then: "Give 1 to 16 readings, meters 0 to 255 in rising order, each with a code of 1 to 4; for a heat split give two files that table --plain wrote, the start's first.",
     },
     Sentence { number: 5, means: "there is no such lane", then: "Use lane 0 to 7." },
     Sentence {
@@ -118,6 +132,16 @@ pub const SENTENCES: [Sentence; 17] = [
         means: "this reply has no reading that the box can take",
         then: "It must be a water, heat or cooling meter's, with eight digits in litres or kWh: paviluko bus shows what it has.",
     },
+    Sentence {
+        number: 18,
+        means: "a meter is heat in one of the two tables and another kind in the other",
+        then: "Its place was given to another kind of meter during the year: settle that meter by hand. If no meter was changed, the two files are not of one house.",
+    },
+    Sentence {
+        number: 19,
+        means: "there is no heat to share: no heat meter is in both tables, or none used any",
+        then: "Look whether these are the right two files, the start's first.",
+    },
 ];
 
 /// The sentence of a number, if there is such a number.
@@ -141,9 +165,20 @@ mod tests {
     use super::*;
 
     #[test]
-    fn numbers_are_1_to_17() {
+    fn numbers_are_1_to_19() {
         let numbers: Vec<u8> = SENTENCES.iter().map(|s| s.number).collect();
-        assert_eq!(numbers, (1..=17).collect::<Vec<u8>>());
+        assert_eq!(numbers, (1..=19).collect::<Vec<u8>>());
+    }
+
+    #[test]
+    fn the_row_of_4_has_both_causes() {
+        let row = sentence(4).expect("there");
+        let second = NO_TABLE.means.strip_prefix("this is ").expect("the same beginning");
+        assert_eq!(row.means, format!("{}, or {second}", NO_TRANSACTION.means));
+        for cause in [NO_TRANSACTION, NO_TABLE] {
+            let then = cause.then.strip_prefix("Give ").expect("what to give");
+            assert!(row.then.contains(then.trim_end_matches('.')), "{cause}");
+        }
     }
 
     #[test]

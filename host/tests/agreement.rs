@@ -1,7 +1,10 @@
 //! Rust's declarations against the library: sizes and offsets are asserted where they are declared; here a collector goes
 //! from Load to a recovery, and what the library says of a state is what stands in its fields.
 
-use paviluko_host::{Collector, Due, FILE_LEN, LANES, METERS, Numbers, Phase, RECORD_LEN, Refusal, Store, Taken, ffi};
+use paviluko_host::{
+    Collector, Due, ENTRY_LEN, FILE_LEN, HEAT_TEXT_LEN, LANES, METERS, Numbers, Phase, RECORD_LEN, Refusal, Store,
+    TABLE_LEN, Taken, ffi, heat_split,
+};
 
 const KEY: [u8; 16] = *b"sixteen of bytes";
 
@@ -14,6 +17,17 @@ fn transaction(stamp: u64, writes: &[(u16, u8, i32)]) -> Vec<u8> {
         out.extend(reading.to_le_bytes());
     }
     out
+}
+
+/// A state's table in plain, field by field from the state.
+fn plain(state: &ffi::State) -> Vec<u8> {
+    let entry = |e: &ffi::Entry| {
+        let mut bytes = [e.stamp.to_le_bytes(), e.number.to_le_bytes()].concat();
+        bytes.extend(e.reading.to_le_bytes());
+        bytes.extend([e.code, e.lane, e.present, 0]);
+        bytes
+    };
+    state.table.entries.iter().flat_map(entry).collect()
 }
 
 /// What the library says of a state is what stands there.
@@ -32,6 +46,9 @@ fn agrees(collector: &Collector) {
             Some(reading) => assert_eq!(*entry, ffi::Entry::from(reading)),
         }
     }
+    let mut out = [165; TABLE_LEN + 3];
+    assert_eq!(collector.plain_table(&mut out), Ok(Taken { store: None, len: TABLE_LEN }));
+    assert_eq!((&out[..TABLE_LEN], &out[TABLE_LEN..]), (&plain(state)[..], &[165; 3][..]));
 }
 
 /// The store that a taken call names; the state agrees behind it.
@@ -165,4 +182,48 @@ fn a_refused_load() {
     assert_eq!(answers, [Err(Refusal { number: 1, value: 0 }); 7]);
     assert_eq!(*c.state(), blank);
     assert_eq!(out, [165; FILE_LEN]);
+}
+
+/// The table in plain at the start and at the end of a year, and their split: as 02 has it.
+#[test]
+fn a_year_s_heat() {
+    let mut out = [0; FILE_LEN];
+    let mut c = in_service(&mut out);
+    let mut tables = Vec::new();
+    for (year, readings) in [[10, 10, 5, 10], [11, 11, 3, 11]].iter().enumerate() {
+        let writes: Vec<(u16, u8, i32)> = [4, 9, 12, 200].into_iter().zip(readings).map(|(m, r)| (m, 3, *r)).collect();
+        let (number, position) = (year as u64 + 1, year as u64 * 10);
+        let said = c.accept(&transaction(100 + number, &writes), 0, position);
+        assert_eq!(named(&c, said), Some(Store::W { lane: 0, value: number }));
+        let record = c.seal(&mut out).map(|taken| out[..taken.len].to_vec()).expect("sealed");
+        let said = c.commit(&record);
+        assert_eq!(named(&c, said), Some(Store::V { lane: 0, value: number }));
+        let mut table = [165; TABLE_LEN];
+        assert_eq!(c.plain_table(&mut table[1..]), Err(Refusal { number: 3, value: TABLE_LEN as u64 }));
+        assert_eq!(table, [165; TABLE_LEN]);
+        assert_eq!(c.plain_table(&mut table), Ok(Taken { store: None, len: TABLE_LEN }));
+        tables.extend(table);
+    }
+    let text = "meter,used,share\n4,1,333334\n9,1,333333\n12,-2,0\n200,1,333333\n";
+    let mut said = [165; HEAT_TEXT_LEN];
+    assert_eq!(heat_split(&tables, &mut said), Ok(Taken { store: None, len: text.len() }));
+    assert_eq!(&said[..text.len()], text.as_bytes());
+    assert!(said[text.len()..].iter().all(|byte| *byte == 165));
+
+    // Each refusal is its number alone, and leaves the output.
+    let mut said = [165; HEAT_TEXT_LEN];
+    let mut refused = |tables: &[u8], number: u8| {
+        assert_eq!(heat_split(tables, &mut said), Err(Refusal { number, value: 0 }));
+        assert_eq!(said, [165; HEAT_TEXT_LEN]);
+    };
+    refused(&tables[1..], 4);
+    refused(&[], 4);
+    refused(&[&tables[..TABLE_LEN], &tables[..TABLE_LEN]].concat(), 19);
+    let mut changed = tables.clone();
+    changed[9 * ENTRY_LEN + 20] = 1;
+    refused(&changed, 18);
+    changed[TABLE_LEN + 12 * ENTRY_LEN + 20] = 5;
+    refused(&changed, 4);
+    assert_eq!(heat_split(&tables, &mut said[..text.len() - 1]), Err(Refusal { number: 3, value: text.len() as u64 }));
+    assert_eq!(said, [165; HEAT_TEXT_LEN]);
 }

@@ -72,10 +72,18 @@ impl From<Stop> for Answer {
     }
 }
 
-/// The same, where a call was made that has but one of the two causes of 7.
-pub fn stopped(stop: Stop, full: &Sentence) -> Answer {
+/// The same, where a call was made that has but one of the two causes of a number: these say which.
+pub fn stopped(stop: Stop, causes: &[Sentence]) -> Answer {
     match stop {
-        Stop::Refused(Refusal { number, .. }) if number == full.number => Answer::failed(format!("refused: {full}")),
+        Stop::Refused(refusal) => refused(&refusal, causes),
         _ => Answer::from(stop),
+    }
+}
+
+/// A refusal, in the words of its one cause where these have it.
+pub fn refused(refusal: &Refusal, causes: &[Sentence]) -> Answer {
+    match causes.iter().find(|cause| cause.number == refusal.number) {
+        Some(cause) => Answer::failed(format!("refused: {cause}")),
+        None => Answer::failed(format!("refused: {refusal}")),
     }
 }

@@ -7,7 +7,7 @@ use paviluko_host::files::clean;
 use paviluko_host::transaction::{self, Write as Reading};
 use paviluko_host::{ONE_WRITE_LEN, Refusal, words};
 
-use crate::answer::Answer;
+use crate::answer::{self, Answer};
 use crate::colour::Tone;
 use crate::help::short;
 use crate::screen::{aligned, count};
@@ -49,7 +49,7 @@ fn refused(frame: &[u8], meter: u16, refusal: Refusal) -> Answer {
         4 => Some(format!("the meter is {meter}, and meters are 0 to 255")),
         number => (end.number() == number).then(|| end.to_string()),
     };
-    let answer = Answer::failed(format!("refused: {refusal}"));
+    let answer = answer::refused(&refusal, &[words::NO_TRANSACTION]);
     why.into_iter().fold(answer, |answer, why| answer.and(Tone::Bad, format!("why: {why}")))
 }
 

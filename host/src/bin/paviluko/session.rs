@@ -6,6 +6,7 @@ use paviluko_host::card::Card;
 use paviluko_host::files::{clean, shown};
 use paviluko_host::runner::{Moment, Numbered, Runner, Started, Stop, Tidied};
 use paviluko_host::transaction::{self, Batch};
+use paviluko_host::words::Sentence;
 use paviluko_host::{Phase, Reading, words};
 
 use crate::answer::{Answer, stopped};
@@ -15,6 +16,8 @@ use crate::{bus, file, help, screen, stamps};
 
 /// So many warnings of a file are printed, and the rest counted.
 const MOST_WARNINGS: usize = 5;
+/// What 4 and 7 mean where a transaction is turned down.
+const OF_A_TRANSACTION: [Sentence; 2] = [words::NO_TRANSACTION, words::FULL_OF_RECORDS];
 
 /// What becomes of a transaction.
 #[derive(Clone, Copy, PartialEq, Eq)]
@@ -130,7 +133,7 @@ impl Session {
         let and_what = |answer: Answer| what.into_iter().fold(answer, |answer, text| answer.and(Tone::Plain, text));
         let (numbered, tidied) = match self.take_bytes(batch.lane, bytes, way) {
             Ok(taken) => taken,
-            Err(stop) => return and_what(stopped(stop, &words::FULL_OF_RECORDS)),
+            Err(stop) => return and_what(stopped(stop, &OF_A_TRANSACTION)),
         };
         let done = if way == Way::Accept { "accepted, not visible" } else { "visible" };
         let readings = screen::count(batch.writes.len(), "reading");
@@ -197,7 +200,7 @@ impl Session {
                 Err(stop) => {
                     let before = screen::count(done, "transaction");
                     let place = format!("{}, line {}, after {before}: ", shown(path), batch.line);
-                    return Ok(warned(stopped(stop, &words::FULL_OF_RECORDS).at(&place), &warnings));
+                    return Ok(warned(stopped(stop, &OF_A_TRANSACTION).at(&place), &warnings));
                 }
             }
             warnings.extend(odd.into_iter().map(|text| format!("line {}: {text}", batch.line)));
@@ -251,7 +254,7 @@ impl Session {
         let Some(at) = position(at) else { return Ok(Answer::wrong("the position as a number")) };
         Ok(match self.runner.point(at) {
             Ok(at) => Answer::fine(format!("point set at {at}")),
-            Err(stop) => stopped(stop, &words::FULL_OF_POINTS),
+            Err(stop) => stopped(stop, &[words::FULL_OF_POINTS]),
         })
     }
 
