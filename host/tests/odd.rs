@@ -27,7 +27,7 @@ fn pick<'a, T>(random: &mut Random, list: &'a [T]) -> &'a T {
 
 /// A line of a script: often a command, often a wrong one.
 fn line(random: &mut Random) -> String {
-    const LINES: [&str; 29] = [
+    const LINES: [&str; 32] = [
         "start",
         "start",
         "start",
@@ -37,6 +37,9 @@ fn line(random: &mut Random) -> String {
         "truncate",
         "table",
         "table --csv",
+        "table --plain plain",
+        "table --plain box/vault",
+        "table --plain nowhere/plain",
         "status",
         "help",
         "take 0 100 1=1:5",
@@ -58,7 +61,7 @@ fn line(random: &mut Random) -> String {
         "cut during 5 18446744073709551615",
         "#",
     ];
-    const WORDS: [&str; 27] = [
+    const WORDS: [&str; 29] = [
         "take",
         "accept",
         "commit",
@@ -71,6 +74,8 @@ fn line(random: &mut Random) -> String {
         "--csv",
         "--file",
         "--new",
+        "--plain",
+        "table",
         "take-bus",
         "68",
         "681515680",

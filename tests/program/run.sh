@@ -1,8 +1,9 @@
 #!/bin/sh
 # The program paviluko as a person uses it: sessions with expected answers, those of the documents at a terminal, its identity,
-# command lines, odd input, completion, damaged files, cards changed, torn and damaged, and the program killed at random moments. A
-# line each.
-# Run from the repository's top; the library is built before. PAVILUKO_LIB may name another folder with its archive.
+# command lines, odd input, heat splits, completion, damaged files, cards changed, torn and damaged, and the program killed at random
+# moments. A line each.
+# Run from the repository's top; the library and the program heatsplit are built before. PAVILUKO_LIB may name another folder with
+# the library's archive; what needs heatsplit is then left out where that is not built.
 # With the argument --write, the answers become the expected ones (look at them before you commit them).
 set -eu
 
@@ -43,6 +44,10 @@ flip() {
     byte=$(od -An -tu1 -j"$2" -N1 "$1" | tr -d ' ')
     printf "\\$(printf %03o $((byte ^ 1)))" | dd of="$1" bs=1 seek="$2" conv=notrunc 2>/dev/null
 }
+
+heatsplit=$top/target/bin/heatsplit
+[ -x "$heatsplit" ] || [ "$PAVILUKO_LIB" != "$top/target/staticlib" ] ||
+    fail "$heatsplit is missing: rt check heatsplit builds it"
 
 quietly sh tools/cargo.sh build --release --quiet -p paviluko_host
 
@@ -109,8 +114,9 @@ done
 echo "program: $sessions sessions answered as expected"
 
 cd "$top"
-python3 "$here/sessions.py" "$program" README.md docs/FITTER.md
+python3 "$here/sessions.py" "$program" "$heatsplit" README.md docs/FITTER.md
 python3 -B "$here/terminal.py" "$program"
+python3 "$here/heat.py" "$program" "$heatsplit"
 
 # ---- identity ----
 
@@ -155,7 +161,7 @@ fresh
 for words in --help -h help 'nwe --help' '--help new x'; do
     expect 0 'paviluko table DIR [--csv]' "$program" $words
 done
-for command in new run table bus demo; do
+for command in new run table heat bus demo; do
     for words in "$command --help" "$command box -h" "help $command" "$command a b c d --help"; do
         expect 0 "paviluko $command" "$program" $words
         ! grep -q 'paviluko --version' "$log" || fail "paviluko $words: the help of everything"
@@ -183,6 +189,22 @@ expect 2 'write ./-' "$program" run box -
 expect 2 'a word is missing behind --vault' "$program" new --vault
 expect 2 'write ./-x' "$program" new box --vault -x
 expect 2 'a name is empty' "$program" new ''
+expect 2 'a word is missing behind --plain' "$program" table box --plain
+expect 2 'write --csv or --plain, and not both' "$program" table box --csv --plain x
+expect 2 'there is no option --plan (did you mean --plain?)' "$program" table box --plan x
+expect 2 'write ./-x' "$program" table box --plain -x
+expect 2 'a name is empty' "$program" table box --plain ''
+expect 2 'the folder DIR is missing' "$program" table --plain x
+expect 2 'the files START and END are missing' "$program" heat
+expect 2 'usage: paviluko heat [--lines] START END' "$program" heat --lines
+expect 2 'the file END is missing' "$program" heat a
+expect 2 '"c" is one word too many' "$program" heat a b c
+expect 2 'there is no option --liens (did you mean --lines?)' "$program" heat --liens a b
+expect 2 '--lines' "$program" heat --lines=x a b
+expect 2 'write ./-' "$program" heat a -
+expect 2 'a name is empty' "$program" heat '' b
+expect 2 'there is no command "head" (did you mean heat?)' "$program" head a b
+expect 2 'a word is missing behind --heatsplit' "$program" demo --heatsplit
 expect 2 'the frame is missing' "$program" bus
 expect 2 'usage: paviluko bus HEX.. | --file FILE' "$program" bus ''
 expect 2 'two hexadecimal digits for each byte, and not 681' "$program" bus 68 1B 681
@@ -267,6 +289,111 @@ expect 1 'refused: 9 (byte 0)' "$program" table box
 rm -r box/card-1
 mv lifted box/card-1
 expect 0 '' "$program" table box
+
+# The table in plain without a session: in a file, and the box stays as it is.
+printf 'start\ntable --plain session.table\n' | "$program" run box >"$log"
+cp -r box before
+"$program" table box --plain here.table >"$place/out" 2>"$place/err"
+echo 'plain table written to here.table, 6144 bytes: 3 meters with a reading, 0 heat meters' |
+    diff - "$place/out" >&2 || fail 'paviluko table --plain: not what was written'
+printf '%s\n' 'Box box, card box/card-1: 0 records, 1 checkpoint.' \
+    'The card is taken: 3 meters in the table. Vault and card stay as they are.' |
+    diff - "$place/err" >&2 || fail 'paviluko table --plain: not these notices'
+cmp session.table here.table || fail 'paviluko table --plain: not as table --plain in a session'
+# Meter 5 has its entry at byte 120: stamp, number, reading, code, lane, that it is there.
+[ "$(od -An -v -tu1 -j120 -N24 here.table | tr -s ' \n' ' ')" = ' 0 211 164 105 0 0 0 0 1 0 0 0 0 0 0 0 20 5 0 0 1 7 1 0 ' ] ||
+    fail "the entry of meter 5 in plain: $(od -An -v -tu1 -j120 -N24 here.table)"
+[ "$(tr -d '\000' <here.table | wc -c)" = "$(head -c 168 here.table | tr -d '\000' | wc -c)" ] || fail 'meters without a reading in plain'
+expect 1 'paviluko: failed: here.table: there is something of that name already' "$program" table box --plain here.table
+expect 1 'paviluko: failed: box: is a folder' "$program" table box --plain box
+expect 1 'paviluko: failed: nowhere: not found' "$program" table box --plain nowhere/x
+expect 1 'box/key: the box keeps its own files there' "$program" table box --plain box/key
+expect 1 'the box keeps its own files there' "$program" table box --plain "$PWD/box/card-1/x"
+expect 1 'nowhere: not found' "$program" table nowhere --plain x
+diff -r box before >&2 || fail 'the table in plain changed the box'
+cmp session.table here.table || fail 'a plain table was written over'
+mv box/card-1 lifted
+mkdir box/card-1
+expect 1 'refused: 9 (byte 0)' "$program" table box --plain x
+rm -r box/card-1
+mv lifted box/card-1
+[ ! -e x ] || fail 'a refused card, and its table in plain'
+[ -z "$(find . -name '*.new')" ] || fail "left behind: $(find . -name '*.new')"
+rm -r before
+
+# The heat split: on standard output, a refusal with its reason on standard error.
+printf '%s\n' start 'take 0 1735689600 4=3:10 9=3:10 12=3:5 200=3:10 201=1:7' 'table --plain start.table' \
+    'take 0 1767225600 4=3:11 9=3:11 12=3:3 200=3:11 255=3:1' 'table --plain end.table' \
+    'take 0 1767225601 9=1:4' 'table --plain changed.table' >script
+quietly "$program" new house
+quietly "$program" run house script
+head -c 6144 /dev/zero >empty.table
+expect 0 '  200     1  kWh    33.3333 %' "$program" heat start.table end.table
+"$program" heat start.table end.table >"$place/out" 2>"$place/err"
+diff - "$place/out" >&2 <<'END' || fail 'paviluko heat: not the split'
+meter  used  unit       share
+    4     1  kWh    33.3334 %  ##################################################
+    9     1  kWh    33.3333 %  ##################################################
+   12    -2  kWh     0.0000 %  negative use
+  200     1  kWh    33.3333 %  ##################################################
+total     3  kWh   100.0000 %
+4 heat meters in both tables
+negative use: meter 12 was changed during the year, or went back. Its share is 0, and it is left out
+    of the total: settle it by hand
+END
+[ ! -s "$place/err" ] || fail "a split, and: $(cat "$place/err")"
+for words in 'heat --lines start.table end.table' 'heat start.table end.table --lines'; do
+    "$program" $words >"$place/out"
+    printf '%s\n' meter,used,share 4,1,333334 9,1,333333 12,-2,0 200,1,333333 | diff - "$place/out" >&2 ||
+        fail "paviluko $words: not the lines of the request"
+done
+expect 0 '200,1,333333' "$program" heat --lines /dev/fd/3 end.table 3<start.table
+# Refused, with and without --lines: nothing on standard output.
+refuses() {
+    number=$1
+    why=$2
+    shift 2
+    for option in '' --lines; do
+        expect 1 "paviluko: refused: $number," "$program" heat $option "$@"
+        tr -s ' \n' '  ' <"$log" | grep -qF -- "why: $why" || { cat "$log" >&2; fail "not said: $why: $*"; }
+        [ -z "$("$program" heat $option "$@" 2>/dev/null)" ] || fail "refused, and something on standard output: $*"
+    done
+}
+refuses 18 'meter 9 is heat in start.table and cold water in changed.table' start.table changed.table
+refuses 18 'meter 9 is cold water in changed.table and heat in end.table' changed.table end.table
+refuses 19 '4 heat meters are in both tables, which have the same bytes' start.table start.table
+refuses 19 'no heat meter is in both tables' start.table empty.table
+refuses 19 'no heat meter is in both tables' here.table here.table
+{ head -c 288 end.table && head -c 24 /dev/zero && tail -c +313 end.table; } >without.table
+refuses 19 '3 heat meters are in both tables, and all show less at the end than at the start: the two files may be exchanged' \
+    without.table start.table
+{ cat end.table && printf x; } >longer.table
+head -c 6143 end.table >shorter.table
+refuses 4 'longer.table: it has 6145 bytes, and a plain table has 6144' start.table longer.table
+refuses 4 'longer.table: it has 6145 bytes' longer.table shorter.table
+refuses 4 'shorter.table: it has 6143 bytes' start.table shorter.table
+refuses 4 '/dev/null: it is empty' /dev/null end.table
+refuses 4 '/dev/zero: it has more than 6184 bytes' start.table /dev/zero
+refuses 4 'house/key: it has 33 bytes' start.table house/key
+cat house/card-1/checkpoints/* | head -c 6184 >sealed
+refuses 4 'sealed: it has 6184 bytes, as a checkpoint has, which is sealed' start.table sealed
+tail -c +21 sealed | head -c 6144 >ciphertext
+refuses 4 'ciphertext: meter 0' start.table ciphertext
+cp end.table coded.table
+printf '\011' | dd of=coded.table bs=1 seek=116 conv=notrunc 2>/dev/null
+refuses 4 'coded.table: meter 4 has code 9, and codes are 1 to 4' start.table coded.table
+# Two tables in one file are no table; a flaw comes before a changed meter.
+cat start.table end.table >both
+refuses 4 'both: it has more than 6184 bytes' both end.table
+refuses 4 'coded.table: meter 4 has code 9' changed.table coded.table
+odd=$(printf 'a\033[2J')
+cp shorter.table "$odd"
+refuses 4 'a\u{1b}[2J: it has 6143 bytes' start.table "$odd"
+expect 1 'paviluko: nowhere: not found' "$program" heat nowhere end.table
+expect 1 'paviluko: nowhere: not found' "$program" heat start.table nowhere
+expect 1 'paviluko: house: is a folder' "$program" heat start.table house
+{ "$program" heat start.table end.table 2>"$place/err" || true; } | true
+[ ! -s "$place/err" ] || fail "a reader went away, and: $(cat "$place/err")"
 
 # A frame off the bus without a box: what it says on standard output, a refusal on standard error.
 files_for_bus
@@ -360,12 +487,27 @@ completes() {
 fresh
 mkdir box 'a folder'
 : >script
-completes '--help|--version|bus|demo|help|new|run|table|version' ''
+completes '--help|--version|bus|demo|heat|help|new|run|table|version' ''
 completes table ta
+completes 'heat|help' he
 completes '--help|--version' --
 completes '--help|--vault|--version' new --
-completes '--csv|--help|--version' table box -
+completes '--csv|--help|--plain|--version' table box -
 completes --csv table --c
+completes --plain table box --p
+completes 'a folder|box|script' table box --plain ''
+completes 'a folder|box' table --plain script ''
+completes '' table --plain script box ''
+completes 'a folder|box|script' heat ''
+completes script heat --lines s
+completes 'a folder|box|script' heat script ''
+completes '' heat script script ''
+completes '--help|--lines|--version' heat script -
+completes --lines heat a b --l
+completes '--heatsplit|--help|--version' demo -
+completes 'a folder|box|script' demo --heatsplit ''
+completes 'a folder|box' demo --heatsplit script ''
+completes 'a folder|box' demo ''
 completes --help run box --h
 completes 'a folder|box' run ''
 completes 'a folder|box' table --csv ''
@@ -375,7 +517,7 @@ completes 'a folder|box|script' run box ''
 completes script run box s
 completes '' run box script ''
 completes '' table box ''
-completes 'bus|demo|new|run|table' help ''
+completes 'bus|demo|heat|new|run|table' help ''
 completes '--file|--help|--version' bus -
 completes 'a folder|box|script' bus --file ''
 completes script bus --file s
@@ -524,6 +666,7 @@ echo "program: $cases boxes with damaged files, each refused or taken as it shou
 cd "$top"
 quietly sh tools/cargo.sh test --release --quiet -p paviluko_host --lib --bins -- --nocapture
 echo "program: off the bus, as the library says: $(grep -o '[0-9]* frames: .*' "$log")"
+echo "program: a year's heat, as the library says: $(grep -o '[0-9]* pairs of tables: .*' "$log")"
 quietly sh tools/cargo.sh test --release --quiet -p paviluko_host --test cards
 echo 'program: vault file, card folder and the change of a card, cut at every store'
 quietly sh tools/cargo.sh test --release --quiet -p paviluko_host --test torn -- --nocapture
@@ -532,5 +675,12 @@ quietly sh tools/cargo.sh test --release --quiet -p paviluko_host --test odd -- 
 echo "program: random commands and files, no panic; $(grep -o '[0-9]* damaged cards.*table' "$log")"
 quietly sh tools/cargo.sh test --release --quiet -p paviluko_host --test killed -- --nocapture
 echo "program: $(grep -o '[0-9]* kills.*' "$log")"
-quietly "$program" demo
+expect 1 'THE DEMONSTRATION FAILED: /bin/false: exit status: 1' "$program" demo --heatsplit /bin/false
+expect 1 'THE DEMONSTRATION FAILED: /bin/true prints other lines than the library' "$program" demo --heatsplit /bin/true
+if [ -x "$heatsplit" ]; then
+    quietly "$program" demo --heatsplit "$heatsplit"
+    grep -q 'heatsplit: 65 lines' "$log" || fail 'the demonstration left heatsplit out'
+else
+    quietly "$program" demo
+fi
 echo "program: demonstration: $(grep 'power cuts' "$log")"

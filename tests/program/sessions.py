@@ -2,11 +2,12 @@
 """Runs the sessions that the documents show, word for word.
 
 A session is an indented block that begins with a command of the program, behind "$ ". Its commands run one after the other in an empty folder in which the program
-stands at target-rust/release/paviluko, each at a terminal of its own; what the document shows behind the program's prompt is typed
+stands at target-rust/release/paviluko, and heatsplit at target/bin/heatsplit, each at a terminal of its own; what the document shows behind the program's prompt is typed
 when the prompt has come. The whole transcript must be the block, line by line; carriage returns are left out. Where the block ends
-at a prompt, the input ends there.
+at a prompt, the input ends there. A command that says it refuses ends with status 1, any other with 0. Where heatsplit is not built,
+the sessions that run it are left out.
 
-    sessions.py PROGRAM DOCUMENT..      every document must have a session
+    sessions.py PROGRAM HEATSPLIT DOCUMENT..      every document must have a session
 """
 
 import difflib
@@ -22,9 +23,12 @@ import time
 INDENT = "    "
 COMMAND = "$ "
 PROGRAM = "target-rust/release/paviluko"
+HEATSPLIT = "target/bin/heatsplit"
 PROMPT = "paviluko> "
-# A terminal that can move its cursor, and whoever sits there wants no colours.
-PLAIN = {"TERM": "xterm", "NO_COLOR": "1"}
+# How a command begins that refuses something.
+REFUSED = "paviluko: refused: "
+# A terminal that can move its cursor and shows UTF-8, and whoever sits there wants no colours.
+PLAIN = {"TERM": "xterm", "NO_COLOR": "1", "LC_ALL": "C.UTF-8"}
 # As wide as the longest line that a document types, so that none of it goes out of sight.
 COLUMNS = 200
 # How long a prompt, or the end of a command, is waited for.
@@ -129,21 +133,29 @@ def transcript(block, folder):
         finally:
             status = terminal.close()
         shown += COMMAND + command + "\n" + text
-        if status != 0:
+        if status != (1 if ("\n" + text).find("\n" + REFUSED) >= 0 else 0):
             raise Wrong(f"exit status {status}: {command}\n{shown}")
     return shown
 
 
-def held(program, document):
-    """Runs the sessions of a document. How many there are, and how many lines they have."""
+def runs(block, name):
+    """Whether a command of a block runs a program."""
+    return any(name in command for command, _ in commands(block))
+
+
+def held(programs, document):
+    """Runs the sessions of a document. How many there are, how many lines they have, and how many are left out."""
     with open(document, encoding="utf-8") as file:
         found = list(sessions(file.read()))
     if not found:
         raise Wrong(f"{document} has no session")
-    for start, block in found:
+    missing = [name for name, path in programs.items() if not os.path.exists(path)]
+    kept = [(start, block) for start, block in found if not any(runs(block, name) for name in missing)]
+    for start, block in kept:
         with tempfile.TemporaryDirectory() as folder:
-            os.makedirs(os.path.join(folder, os.path.dirname(PROGRAM)))
-            os.symlink(os.path.abspath(program), os.path.join(folder, PROGRAM))
+            for name, path in programs.items():
+                os.makedirs(os.path.join(folder, os.path.dirname(name)))
+                os.symlink(os.path.abspath(path), os.path.join(folder, name))
             try:
                 shown = transcript(block, folder)
             except Wrong as wrong:
@@ -152,16 +164,17 @@ def held(program, document):
         if lines != block:
             names = f"{document}, from line {start} on", "the program"
             raise Wrong("\n".join(difflib.unified_diff(block, lines, *names, lineterm="")))
-    return len(found), sum(len(block) for _, block in found)
+    return len(kept), sum(len(block) for _, block in kept), len(found) - len(kept)
 
 
 def main():
-    program, *documents = sys.argv[1:]
+    program, heatsplit, *documents = sys.argv[1:]
     try:
         for document in documents:
-            count, lines = held(program, document)
+            count, lines, left = held({PROGRAM: program, HEATSPLIT: heatsplit}, document)
             words = "1 session" if count == 1 else f"{count} sessions"
-            print(f"program: {document}: {words}, {lines} lines, word for word")
+            left = f"; {left} left out, for heatsplit is not built" if left else ""
+            print(f"program: {document}: {words}, {lines} lines, word for word{left}")
     except Wrong as wrong:
         print(wrong, file=sys.stderr)
         sys.exit(1)

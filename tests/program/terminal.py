@@ -1,5 +1,5 @@
 #!/usr/bin/env python3
-"""The program at a terminal: its line editor, its colours, and the terminal left as it was found.
+"""The program at a terminal: its line editor, its colours, its bars, and the terminal left as it was found.
 
     terminal.py PROGRAM
 """
@@ -21,7 +21,7 @@ TYPED = [
     ("take 0 100 5=1:7x\x7f\n", "visible: lane 0, number 1, 1 reading"),
     ("\x1b[A\x17\x17200 5=1:8\n", "visible: lane 0, number 2, 1 reading"),
     ("\x1b[A\x1b[A\x1b[B\x1b[A\x1b[H\x1b[C\x1b[C\x1b[C\x1b[C\x1b[C\x1b[3~1\n", "visible: lane 1, number 1, 1 reading"),
-    ("nonsense é\x15tab\t--csv\n", "meter,code,reading,stamp,lane,number,medium,unit,utc\n5,1,8,200,0,2,"),
+    ("nonsense é\x15tab\t--c\t\n", "meter,code,reading,stamp,lane,number,medium,unit,utc\n5,1,8,200,0,2,"),
     ("not this\x03status\x0b\n", "box        "),
     ("copy-card \u6c34" + "x" * 90 + "\x17a-copy\n", "card copied to a-copy"),
     ("swap-card a-c\t\n", "card in the box: a-copy: 3 records"),
@@ -119,6 +119,41 @@ def colours(program, folder):
     check("the box has no power" in piped.stdout and "\x1b" not in piped.stdout, f"in a pipe: {piped.stdout!r}")
 
 
+def bars(program, folder):
+    """Bars of blocks where the terminal shows them, as wide as it is; of # elsewhere; none where there is no room."""
+    lines = "start\ntake 0 1 4=3:0 9=3:0\ntable --plain a\ntake 0 2 4=3:3 9=3:1\ntable --plain b\n"
+    subprocess.run([program, "new", "house"], cwd=folder, check=True, stdout=subprocess.DEVNULL)
+    subprocess.run([program, "run", "house"], input=lines, cwd=folder, check=True, capture_output=True, text=True)
+    blocks, signs = ("█" * 50, "█" * 16 + "▋"), ("#" * 50, "#" * 17)
+    for around, columns, wanted in [
+        (PLAIN, 0, blocks),
+        (PLAIN, 200, blocks),
+        (PLAIN | {"LC_ALL": "de_DE.utf8"}, 100, blocks),
+        (PLAIN, 60, ("█" * 29, "█" * 9 + "▋")),
+        (PLAIN, 36, ("█" * 5, "█" * 1 + "▋")),
+        (PLAIN, 35, ("", "")),
+        (PLAIN, 10, ("", "")),
+        (PLAIN | {"LC_ALL": "C"}, 100, signs),
+        (PLAIN | {"LC_ALL": "C"}, 60, ("#" * 29, "#" * 10)),
+        (PLAIN | {"TERM": "dumb"}, 100, signs),
+    ]:
+        terminal = Terminal(f"exec {program} heat a b", folder, around, columns)
+        try:
+            terminal.wait()
+        finally:
+            status = terminal.close()
+        first, second = wanted
+        shown = [
+            "meter  used  unit       share",
+            f"    4     3  kWh    75.0000 %  {first}".rstrip(),
+            f"    9     1  kWh    25.0000 %  {second}".rstrip(),
+            "total     4  kWh   100.0000 %",
+            "2 heat meters in both tables",
+            "",
+        ]
+        check(status == 0 and terminal.shown.split("\n") == shown, f"{around}, {columns} columns: {terminal.shown!r}")
+
+
 def main():
     program = os.path.abspath(sys.argv[1])
     with tempfile.TemporaryDirectory() as folder:
@@ -127,10 +162,11 @@ def main():
             lines = edited(program, folder)
             put_back(program, folder)
             colours(program, folder)
+            bars(program, folder)
         except Wrong as wrong:
             print(wrong, file=sys.stderr)
             sys.exit(1)
-    print(f"program: {lines} lines typed and mended at a terminal, which is left as it was found; colours there alone")
+    print(f"program: {lines} lines typed and mended at a terminal, which is left as it was found; colours and blocks there alone")
 
 
 if __name__ == "__main__":

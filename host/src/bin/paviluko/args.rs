@@ -14,6 +14,8 @@ paviluko: a submeter collector's box on the bench
   paviluko new [--vault FILE] DIR   makes a box in the folder DIR: a vault, a key, an empty card
   paviluko run DIR [SCRIPT]         runs that box: commands from the terminal, a pipe or a file
   paviluko table DIR [--csv]        prints that box's table of latest readings, and stores nothing
+  paviluko table DIR --plain FILE   writes that table in plain to FILE, for the yearly heat split
+  paviluko heat START END           splits a year's heat: the tables in plain of its start and end
   paviluko bus HEX.. | --file FILE  prints what a meter's reply on the wired bus says
   paviluko demo [DIR]               shows the main job on a new box, in DIR or a passing folder
   paviluko --version                prints the library's edition and the hash of its sources
@@ -45,7 +47,21 @@ Prints the latest reading of every meter of the box in the folder DIR. The card 
 as at a start, and refused alike; nothing is stored, so that vault and card stay as they are. Only
 the table goes to standard output; what else there is to say goes to standard error.
 
-  --csv   prints it as meter,code,reading,stamp,lane,number,medium,unit,utc
+  --csv          prints it as meter,code,reading,stamp,lane,number,medium,unit,utc
+  --plain FILE   writes it in plain to FILE instead, 6144 bytes, for the yearly heat split: see
+                 paviluko heat --help. FILE is not there yet, and lies outside of the box. What is
+                 in it is not sealed: anybody can change it.
+";
+
+const HEAT: &str = "\
+Prints what each heat meter of a house used in a year, in kWh, and its share of the house in percent
+and as a bar; the longest is that of the largest share. START and END are the tables of the start
+and the end of the year, in plain, as table --plain writes them. Listed are the meters that are heat
+meters in both. A meter that shows less at the end than at the start has a negative use: its share
+is 0, and it is left out of the total. All numbers are the proved library's, the same that the
+program heatsplit prints. What is refused (4, 18, 19) is refused on standard error, with the reason.
+
+  --lines   prints the lines of heatsplit alone: meter,used,share, with shares in millionths
 ";
 
 const BUS: &str = "\
@@ -60,9 +76,12 @@ on standard error, with the reason.
 
 const DEMO: &str = "\
 Shows the main job on a new box and checks it: a day's readings, a checkpoint and a truncation, the
-plug pulled before and after every store and in the middle of some, old cards put in and refused.
-The box and its cards are made in the folder DIR, which is not there yet, or in a folder that is
-removed in the end.
+plug pulled before and after every store and in the middle of some, old cards put in and refused, a
+year's heat split. The box and its cards are made in the folder DIR, which is not there yet, or in a
+folder that is removed in the end.
+
+  --heatsplit FILE   hands the year's two tables to the program FILE too, on standard input, and
+                     compares its lines with the library's
 ";
 
 /// A command of the command line.
@@ -71,13 +90,14 @@ pub enum Command {
     New,
     Run,
     Table,
+    Heat,
     Bus,
     Demo,
 }
 
-const COMMANDS: [Command; 5] = [Command::New, Command::Run, Command::Table, Command::Bus, Command::Demo];
+const COMMANDS: [Command; 6] = [Command::New, Command::Run, Command::Table, Command::Heat, Command::Bus, Command::Demo];
 /// All words that can stand first.
-const WORDS: [&str; 7] = ["new", "run", "table", "bus", "demo", "help", "version"];
+const WORDS: [&str; 8] = ["new", "run", "table", "heat", "bus", "demo", "help", "version"];
 
 impl Command {
     fn of(word: &str) -> Option<Command> {
@@ -89,6 +109,7 @@ impl Command {
             Command::New => "new",
             Command::Run => "run",
             Command::Table => "table",
+            Command::Heat => "heat",
             Command::Bus => "bus",
             Command::Demo => "demo",
         }
@@ -99,9 +120,10 @@ impl Command {
         match self {
             Command::New => "paviluko new [--vault FILE] DIR",
             Command::Run => "paviluko run DIR [SCRIPT]",
-            Command::Table => "paviluko table DIR [--csv]",
+            Command::Table => "paviluko table DIR [--csv | --plain FILE]",
+            Command::Heat => "paviluko heat [--lines] START END",
             Command::Bus => "paviluko bus HEX.. | --file FILE",
-            Command::Demo => "paviluko demo [DIR]",
+            Command::Demo => "paviluko demo [--heatsplit FILE] [DIR]",
         }
     }
 
@@ -111,19 +133,22 @@ impl Command {
             Command::New => NEW,
             Command::Run => RUN,
             Command::Table => TABLE,
+            Command::Heat => HEAT,
             Command::Bus => BUS,
             Command::Demo => DEMO,
         };
         format!("{}\n\n{text}", self.usage())
     }
 
-    /// Its option, and whether that takes a word.
-    fn option(self) -> Option<(&'static str, bool)> {
+    /// Its options, and whether each takes a word: there is one at most that does, and one that does not.
+    fn options(self) -> &'static [(&'static str, bool)] {
         match self {
-            Command::New => Some(("vault", true)),
-            Command::Table => Some(("csv", false)),
-            Command::Bus => Some(("file", true)),
-            Command::Run | Command::Demo => None,
+            Command::New => &[("vault", true)],
+            Command::Table => &[("csv", false), ("plain", true)],
+            Command::Heat => &[("lines", false)],
+            Command::Bus => &[("file", true)],
+            Command::Demo => &[("heatsplit", true)],
+            Command::Run => &[],
         }
     }
 
@@ -132,8 +157,18 @@ impl Command {
         match self {
             Command::New | Command::Table => (1, 1),
             Command::Run => (1, 2),
+            Command::Heat => (2, 2),
             Command::Demo => (0, 1),
             Command::Bus => (0, 0),
+        }
+    }
+
+    /// What is missing where so many names are there, and these are too few.
+    fn missing(self, names: usize) -> &'static str {
+        match (self, names) {
+            (Command::Heat, 0) => "the files START and END are missing",
+            (Command::Heat, _) => "the file END is missing",
+            _ => "the folder DIR is missing",
         }
     }
 }
@@ -143,11 +178,21 @@ impl Command {
 pub enum Wish {
     New { dir: PathBuf, vault: Option<PathBuf> },
     Run { dir: PathBuf, script: Option<PathBuf> },
-    Table { dir: PathBuf, csv: bool },
+    Table { dir: PathBuf, form: Form },
+    Heat { start: PathBuf, end: PathBuf, lines: bool },
     Bus(Source),
-    Demo { dir: Option<PathBuf> },
+    Demo { dir: Option<PathBuf>, heatsplit: Option<PathBuf> },
     Help(Option<Command>),
     Version,
+}
+
+/// How a table is wanted.
+#[derive(Debug, PartialEq, Eq)]
+pub enum Form {
+    Columns,
+    Csv,
+    /// In plain, in a file.
+    Plain(PathBuf),
 }
 
 /// Where a frame is.
@@ -186,13 +231,13 @@ pub fn read(words: impl IntoIterator<Item = OsString>) -> Result<Wish, Wrong> {
             Ok(Some(Arg::Short(letter))) => line.no_option(&format!("-{letter}")),
             Ok(Some(Arg::Long(name))) => {
                 let name = name.to_string();
-                match line.command.and_then(Command::option) {
-                    Some((own, true)) if own == name => match parser.value() {
+                match line.options().iter().find(|(own, _)| *own == name) {
+                    Some((_, true)) => match parser.value() {
                         Ok(value) => line.value = line.name(value),
                         Err(_) => line.complain(&format!("a word is missing behind --{name}")),
                     },
-                    Some((own, false)) if own == name => line.flag = true,
-                    _ => {
+                    Some((_, false)) => line.flag = true,
+                    None => {
                         line.no_option(&format!("--{name}"));
                         parser.optional_value();
                     }
@@ -212,15 +257,20 @@ struct Line {
     names: Vec<PathBuf>,
     /// The words of a frame.
     hex: Vec<String>,
-    /// The command's option was given.
+    /// The command's option that takes no word was given.
     flag: bool,
-    /// The word behind it.
+    /// The word behind the one that takes a word.
     value: Option<PathBuf>,
     /// The first thing that is wrong.
     wrong: Option<Wrong>,
 }
 
 impl Line {
+    /// The options of the command.
+    fn options(&self) -> &'static [(&'static str, bool)] {
+        self.command.map_or(&[], Command::options)
+    }
+
     fn complain(&mut self, what: &str) {
         let wrong = Wrong::of(self.command, what);
         self.wrong.get_or_insert(wrong);
@@ -272,8 +322,8 @@ impl Line {
     }
 
     fn no_option(&mut self, option: &str) {
-        let own = self.command.and_then(Command::option).map(|(name, _)| format!("--{name}"));
-        let known = ["--help", "--version"].into_iter().chain(own.as_deref());
+        let own: Vec<String> = self.options().iter().map(|(name, _)| format!("--{name}")).collect();
+        let known = ["--help", "--version"].into_iter().chain(own.iter().map(String::as_str));
         let meant = near::question(option, known);
         let option = clean(option);
         self.complain(&format!("there is no option {option}{meant}; a name that begins so is written ./{option}"));
@@ -291,7 +341,7 @@ impl Line {
             return Err(Wrong(format!("paviluko: a command is missing\n\n{USAGE}")));
         };
         if self.names.len() < command.words().0 {
-            return Err(Wrong::of(Some(command), "the folder DIR is missing"));
+            return Err(Wrong::of(Some(command), command.missing(self.names.len())));
         }
         let mut names = self.names.into_iter();
         let first = names.next();
@@ -299,10 +349,24 @@ impl Line {
         Ok(match command {
             Command::New => Wish::New { dir, vault: self.value },
             Command::Run => Wish::Run { dir, script: names.next() },
-            Command::Table => Wish::Table { dir, csv: self.flag },
+            Command::Table => {
+                let form = form(self.flag, self.value).map_err(|what| Wrong::of(Some(command), what))?;
+                Wish::Table { dir, form }
+            }
+            Command::Heat => Wish::Heat { start: dir, end: names.next().unwrap_or_default(), lines: self.flag },
             Command::Bus => Wish::Bus(frame(self.hex, self.value).map_err(|what| Wrong::of(Some(command), &what))?),
-            Command::Demo => Wish::Demo { dir: first },
+            Command::Demo => Wish::Demo { dir: first, heatsplit: self.value },
         })
+    }
+}
+
+/// How a table is wanted, from the options.
+fn form(csv: bool, plain: Option<PathBuf>) -> Result<Form, &'static str> {
+    match (csv, plain) {
+        (false, None) => Ok(Form::Columns),
+        (true, None) => Ok(Form::Csv),
+        (false, Some(file)) => Ok(Form::Plain(file)),
+        (true, Some(_)) => Err("write --csv or --plain, and not both"),
     }
 }
 
@@ -349,14 +413,20 @@ mod tests {
             ("new -- box", Wish::New { dir: dir(), vault: None }),
             ("run box", Wish::Run { dir: dir(), script: None }),
             ("run box new", Wish::Run { dir: dir(), script: Some("new".into()) }),
-            ("table box", Wish::Table { dir: dir(), csv: false }),
-            ("table --csv box", Wish::Table { dir: dir(), csv: true }),
+            ("table box", Wish::Table { dir: dir(), form: Form::Columns }),
+            ("table --csv box", Wish::Table { dir: dir(), form: Form::Csv }),
+            ("table box --plain f", Wish::Table { dir: dir(), form: Form::Plain("f".into()) }),
+            ("table --plain=f box", Wish::Table { dir: dir(), form: Form::Plain("f".into()) }),
+            ("heat a b", Wish::Heat { start: "a".into(), end: "b".into(), lines: false }),
+            ("heat a --lines b", Wish::Heat { start: "a".into(), end: "b".into(), lines: true }),
+            ("heat --help", Wish::Help(Some(Command::Heat))),
             ("bus 68 1F1f 68", Wish::Bus(Source::Bytes(vec![0x68, 0x1f, 0x1f, 0x68]))),
             ("bus --file f", Wish::Bus(Source::File("f".into()))),
             ("bus --file=f", Wish::Bus(Source::File("f".into()))),
             ("bus x --help", Wish::Help(Some(Command::Bus))),
-            ("demo", Wish::Demo { dir: None }),
-            ("demo box", Wish::Demo { dir: Some(dir()) }),
+            ("demo", Wish::Demo { dir: None, heatsplit: None }),
+            ("demo box", Wish::Demo { dir: Some(dir()), heatsplit: None }),
+            ("demo --heatsplit h", Wish::Demo { dir: None, heatsplit: Some("h".into()) }),
             ("new ./-x", Wish::New { dir: "./-x".into(), vault: None }),
             ("-h", Wish::Help(None)),
             ("help", Wish::Help(None)),
@@ -400,6 +470,17 @@ mod tests {
             ("bus 68 --file f", "\"68\" is one word too many: the frame is in the file"),
             ("bus --file", "a word is missing behind --file"),
             ("bus --fiel f", "there is no option --fiel (did you mean --file?)"),
+            ("heat", "paviluko heat: the files START and END are missing\nusage: paviluko heat [--lines] START END\n"),
+            ("heat a", "the file END is missing"),
+            ("heat a b c", "\"c\" is one word too many"),
+            ("heat a b --liens", "there is no option --liens (did you mean --lines?)"),
+            ("heat a -", "no name may begin with -: write ./-"),
+            ("het a b", "there is no command \"het\" (did you mean heat?)"),
+            ("table --csv box --plain f", "write --csv or --plain, and not both\nusage: paviluko table"),
+            ("table box --plain", "a word is missing behind --plain"),
+            ("table box --plan f", "there is no option --plan (did you mean --plain?)"),
+            ("table --plain f", "the folder DIR is missing"),
+            ("demo --heatsplit", "a word is missing behind --heatsplit"),
             ("run --csv box", "there is no option --csv"),
             ("table --csv=x box", "--csv"),
             ("run box -", "no name may begin with -: write ./-"),

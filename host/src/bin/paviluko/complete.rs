@@ -18,7 +18,7 @@ pub fn words(line: &str) -> Vec<String> {
     match before[..] {
         [] | ["help"] => of(&help::names()),
         [name] if word.starts_with('-') => of(help::options(name)),
-        ["take", .., "--csv"] | ["take-bus", .., "--file"] => paths(word, false),
+        ["take", .., "--csv"] | ["take-bus", .., "--file"] | ["table", "--plain"] => paths(word, false),
         ["swap-card"] | ["copy-card"] | ["swap-card", "--new"] => paths(word, true),
         ["cut"] => of(&["before", "after", "during"]),
         [name @ ("take" | "take-bus"), ..] if word.starts_with('-') => of(help::options(name)),
@@ -67,6 +67,9 @@ mod tests {
         assert_eq!(words("take-bus 0 5 now --f"), ["--file"]);
         assert_eq!(words("take-bus 0 5 now --file /dev/nul"), ["/dev/null"]);
         assert!(words("take-bus 0 5 now 6").is_empty());
+        assert_eq!(words("table -"), ["--csv", "--plain"]);
+        assert_eq!(words("table --plain /dev/nul"), ["/dev/null"]);
+        assert!(words("table --csv ").is_empty());
         assert!(words("start x").is_empty() && words("nothing").is_empty());
         assert_eq!(words("take --csv /dev/nul"), ["/dev/null"]);
         assert_eq!(words("swap-card /de"), ["/dev/"]);

@@ -1,8 +1,9 @@
 //! The main job, shown and checked: a new box, a day's readings on eight lanes, a checkpoint and a truncation, the plug
 //! pulled before and after every single store and in the middle of some, old cards put in and refused, the right card put
-//! back, the table.
+//! back, the table, a year's heat split.
 //!
-//! The demonstration writes down itself what was made visible, and after every start compares the box's table with it.
+//! The demonstration writes down itself what was made visible, and after every start compares the box's table with it; and with what
+//! the heat meters are said to have used in the year.
 //! The plug is pulled inside this process, so its stores do not wait for the disk.
 
 use std::cmp::Reverse;
@@ -11,17 +12,20 @@ use std::fmt;
 use std::fs;
 use std::io::{self, Write};
 use std::path::{Path, PathBuf};
+use std::process::{Command, Stdio};
 use std::time::Instant;
 
 use paviluko_host::files::{Disk, Fault, shown};
 use paviluko_host::folder::BoxFolder;
+use paviluko_host::heat::Split;
 use paviluko_host::runner::{Moment, Runner, Stop};
 use paviluko_host::transaction::{self, Write as Entry};
 use paviluko_host::{FILE_LEN, HEAD_LEN, LANES, METERS, Reading, Refusal, SEAL_LEN, WRITES};
 
+use crate::bars::Bars;
 use crate::colour::{Colours, Tone};
-use crate::screen;
 use crate::wrap::{INDENT, wrap};
+use crate::{heat, screen};
 
 /// Transactions of a day.
 const DAY: u64 = 1500;
@@ -32,8 +36,17 @@ const MOMENTS: [Moment; 2] = [Moment::Before, Moment::After];
 const TORN: [usize; 4] = [1, HEAD_LEN - 1, HEAD_LEN, HEAD_LEN + 1];
 /// Stores of a recovery, without and with numbers that were handed out and not made visible.
 const RECOVERIES: [u64; 2] = [15, 24];
+/// How long a year is, in seconds.
+const YEAR: u64 = 365 * 86_400;
+/// A heat meter that is changed in the course of it: the new one has counted less than the old one had.
+const CHANGED: usize = 19;
 /// Lines of the table that are shown, at its start and at its end.
 const SHOWN: (usize, usize) = (12, 4);
+/// The same of what heatsplit prints, and of the split with bars.
+const SHOWN_LINES: (usize, usize) = (2, 0);
+const SHOWN_BARS: (usize, usize) = (5, 3);
+/// How many headings there are.
+const STEPS: u32 = 9;
 
 /// Why the demonstration ends early.
 enum Trouble {
@@ -71,7 +84,7 @@ fn wrong<T>(what: impl fmt::Display) -> Result<T, Trouble> {
 }
 
 /// `paviluko demo`. The exit status.
-pub fn run(dir: Option<&Path>) -> io::Result<u8> {
+pub fn run(dir: Option<&Path>, heatsplit: Option<&Path>) -> io::Result<u8> {
     let place = match Place::new(dir) {
         Ok(place) => place,
         Err(fault) => {
@@ -79,7 +92,7 @@ pub fn run(dir: Option<&Path>) -> io::Result<u8> {
             return Ok(1);
         }
     };
-    match show(&place) {
+    match show(&place, heatsplit) {
         Ok(()) => Ok(0),
         Err(Trouble::Unread(error)) => Err(error),
         Err(Trouble::Wrong(what)) => {
@@ -193,6 +206,23 @@ impl House {
         Taking { lane: lane as u8, stamp, entries }
     }
 
+    /// All meters once, a year later: what each has counted in the year.
+    fn year(&mut self) -> Vec<Taking> {
+        let all: Vec<usize> = (0..METERS).collect();
+        let mut takings = Vec::new();
+        for (count, meters) in all.chunks(WRITES).enumerate() {
+            for &meter in meters {
+                self.readings[meter] += 100 + self.draw(9000) as i32;
+                if meter == CHANGED {
+                    self.readings[meter] = 12;
+                }
+            }
+            let entries = meters.iter().map(|&meter| self.read(meter)).collect();
+            takings.push(Taking { lane: (count % LANES) as u8, stamp: MORNING + YEAR, entries });
+        }
+        takings
+    }
+
     /// A meter's reading, a little above its last.
     fn read(&mut self, meter: usize) -> Entry {
         let more = self.draw(40) as i32;
@@ -214,7 +244,7 @@ struct Demo {
 }
 
 /// All of it.
-fn show(place: &Place) -> Result<(), Trouble> {
+fn show(place: &Place, heatsplit: Option<&Path>) -> Result<(), Trouble> {
     let folder = place.join("box");
     BoxFolder::create(&folder, Disk::Quick)?;
     let runner = Runner::open(&folder, Disk::Quick)?;
@@ -228,6 +258,8 @@ fn show(place: &Place) -> Result<(), Trouble> {
     }
     demo.cut_the_rest()?;
     demo.other_cards(place)?;
+    demo.table()?;
+    demo.year(place, heatsplit)?;
     demo.end()?;
     if !place.passing {
         writeln!(io::stdout(), "the box and its cards are in {}", shown(&place.folder))?;
@@ -444,37 +476,95 @@ impl Demo {
     }
 
     /// 8. The table.
-    fn end(&mut self) -> Result<(), Trouble> {
+    fn table(&mut self) -> Result<(), Trouble> {
         self.heading(8, "The table")?;
         self.check()?;
         let readings = self.runner.collector().map(|c| c.readings()).unwrap_or_default();
-        let table = screen::table(&readings);
-        let lines: Vec<&str> = table.lines().collect();
-        let (first, last) = SHOWN;
-        let mut out = io::stdout();
-        for (at, line) in lines.iter().enumerate() {
-            if at <= first || at + last >= lines.len() {
-                write!(out, "\n    {line}")?;
-            } else if at == first + 1 {
-                write!(out, "\n    ... {} more", lines.len() - 1 - first - last)?;
+        rows(&screen::table(&readings), SHOWN)?;
+        self.say(&format!("all {} meters checked against what was written down: right", readings.len()))
+    }
+
+    /// 9. The table in plain at the start and at the end of a year, and the heat of that year split.
+    fn year(&mut self, place: &Place, heatsplit: Option<&Path>) -> Result<(), Trouble> {
+        self.heading(9, "The yearly heat split")?;
+        let (start, end) = (place.join("start.table"), place.join("end.table"));
+        let before = self.book.latest.clone();
+        let at_start = self.write_plain(&start)?;
+        for taking in self.house.year() {
+            self.take_this(&taking)?;
+        }
+        self.check()?;
+        let at_end = self.write_plain(&end)?;
+        let bytes = at_end.len();
+        self.say(&format!(
+            "the table written in plain, {bytes} bytes; every meter read a year later; and written again"
+        ))?;
+        let Ok(text) = heat::split((&start, &at_start), (&end, &at_end)) else {
+            return wrong("the tables of a year were refused");
+        };
+        let split = self.check_split(&text, &before)?;
+        if let Some(program) = heatsplit {
+            if through(program, &[at_start, at_end].concat())? != text.as_bytes() {
+                return wrong(format!("{} prints other lines than the library", shown(program)));
+            }
+            let lines = text.lines().count();
+            self.say(&format!(
+                "cat start.table end.table | {}: {lines} lines, as the library has them",
+                shown(program)
+            ))?;
+            rows(&text, SHOWN_LINES)?;
+        }
+        self.say("paviluko heat start.table end.table:")?;
+        rows(&heat::lines(&split, Bars::here().narrower(INDENT)), SHOWN_BARS)?;
+        self.say(&heat::negative(&split.negative()))
+    }
+
+    /// Writes the box's table in plain to a file, and gives it.
+    fn write_plain(&self, path: &Path) -> Result<Vec<u8>, Trouble> {
+        let Some(collector) = self.runner.collector() else { return wrong("the box has no power") };
+        let table = heat::plain(collector).map_err(Stop::Refused)?;
+        self.runner.folder().write_out(path, &table)?;
+        Ok(table)
+    }
+
+    /// Compares a split with the book: what each heat meter used since an earlier one, and that all of it is shared.
+    fn check_split(&self, text: &str, before: &BTreeMap<u8, Reading>) -> Result<Split, Trouble> {
+        let Some(split) = Split::read(text) else { return wrong("the library's text is no split") };
+        let reading = |book: &BTreeMap<u8, Reading>, meter: u8| book.get(&meter).map_or(0, |r| i64::from(r.reading));
+        for line in &split.lines {
+            let used = reading(&self.book.latest, line.meter) - reading(before, line.meter);
+            if line.used != used {
+                return wrong(format!("meter {} used {used} kWh, and the split has {}", line.meter, line.used));
             }
         }
+        match (split.shares(), &split.negative()[..]) {
+            (1_000_000, [meter]) if usize::from(*meter) == CHANGED => Ok(split),
+            other => wrong(format!("the shares, and the meters with a negative use, are {other:?}")),
+        }
+    }
+
+    /// What it came to.
+    fn end(&self) -> io::Result<()> {
         let (stores, transactions) = (self.runner.stores(), self.book.transactions);
-        let (meters, cuts, checks) = (readings.len(), self.cuts, self.checks);
-        self.say(&format!("all {meters} meters checked against what was written down: right"))?;
+        let (cuts, checks) = (self.cuts, self.checks);
+        let mut out = io::stdout();
         writeln!(
             out,
             "\n\n{stores} stores, {transactions} transactions, {cuts} power cuts; the table was right {checks} times of {checks}"
         )?;
-        writeln!(out, "{:.1} seconds", self.began.elapsed().as_secs_f64())?;
-        Ok(())
+        writeln!(out, "{:.1} seconds", self.began.elapsed().as_secs_f64())
     }
 
     /// Takes the next transaction, and writes it down.
     fn take(&mut self) -> Result<(), Trouble> {
         let taking = self.house.next();
+        self.take_this(&taking)
+    }
+
+    /// The same with one that is given.
+    fn take_this(&mut self, taking: &Taking) -> Result<(), Trouble> {
         let visible = self.runner.take(taking.lane, &transaction::bytes(taking.stamp, &taking.entries))?;
-        self.book.enter(&taking, visible.number);
+        self.book.enter(taking, visible.number);
         Ok(())
     }
 
@@ -522,7 +612,7 @@ impl Demo {
     fn heading(&self, step: u32, text: &str) -> io::Result<()> {
         let mut out = io::stdout();
         let space = if step > 1 { "\n\n" } else { "" };
-        let heading = colours().paint(Tone::Heading, &format!("{step} of 8  {text}"));
+        let heading = colours().paint(Tone::Heading, &format!("{step} of {STEPS}  {text}"));
         write!(out, "{space}{heading}")?;
         out.flush()
     }
@@ -538,4 +628,31 @@ impl Demo {
         write!(out, ".")?;
         out.flush()
     }
+}
+
+/// Lines below a heading: so many from the start and from the end, and how many there are between them.
+fn rows(text: &str, (first, last): (usize, usize)) -> io::Result<()> {
+    let lines: Vec<&str> = text.lines().collect();
+    let mut out = io::stdout();
+    for (at, line) in lines.iter().enumerate() {
+        if at <= first || at + last >= lines.len() {
+            write!(out, "\n{:INDENT$}{line}", "")?;
+        } else if at == first + 1 {
+            write!(out, "\n{:INDENT$}... {} more", "", lines.len() - 1 - first - last)?;
+        }
+    }
+    Ok(())
+}
+
+/// What a program prints that is handed some bytes on standard input.
+fn through(program: &Path, bytes: &[u8]) -> Result<Vec<u8>, Trouble> {
+    let run = || -> io::Result<_> {
+        let mut child = Command::new(program).stdin(Stdio::piped()).stdout(Stdio::piped()).spawn()?;
+        // Two tables are not more than a pipe holds.
+        let written = child.stdin.take().map_or(Ok(()), |mut stdin| stdin.write_all(bytes));
+        let output = child.wait_with_output()?;
+        written.map(|()| output)
+    };
+    let output = run().map_err(Fault::unusable(program))?;
+    if output.status.success() { Ok(output.stdout) } else { wrong(format!("{}: {}", shown(program), output.status)) }
 }

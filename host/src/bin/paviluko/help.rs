@@ -32,7 +32,7 @@ const fn entry(form: &'static str, text: &'static str) -> Entry {
     Entry { form, text }
 }
 
-const ENTRIES: [Entry; 24] = [
+const ENTRIES: [Entry; 25] = [
     entry("start", "loads and recovers the box, until it is in service"),
     entry(
         "take LANE STAMP METER=CODE:READING ..",
@@ -50,6 +50,11 @@ const ENTRIES: [Entry; 24] = [
     entry("accept LANE STAMP METER=CODE:READING ..", "the first half of take: the record is written, not visible"),
     entry("commit POSITION", "the second half: makes the record at a position visible"),
     entry("table [--csv]", "the latest reading of every meter"),
+    entry(
+        "table --plain FILE",
+        "writes the table in plain to FILE, which is not there yet, for the yearly heat split (paviluko heat): \
+         6144 bytes that are not sealed",
+    ),
     entry("tidy", "makes room: a point, a checkpoint, a truncation"),
     entry("point [POSITION]", "sets a point, behind all records"),
     entry("checkpoint", "seals the table into a checkpoint on the card"),
@@ -72,7 +77,7 @@ const ENTRIES: [Entry; 24] = [
 ];
 
 /// The commands that take the name of a folder or a file.
-const NAMING: [&str; 4] = ["take", "take-bus", "swap-card", "copy-card"];
+const NAMING: [&str; 5] = ["take", "take-bus", "table", "swap-card", "copy-card"];
 
 /// The names of all commands.
 pub fn names() -> Vec<&'static str> {
@@ -86,7 +91,7 @@ pub fn options(name: &str) -> &'static [&'static str] {
     match name {
         "take" => &["--csv", "--no-tidy"],
         "take-bus" => &["--file"],
-        "table" => &["--csv"],
+        "table" => &["--csv", "--plain"],
         "swap-card" => &["--new"],
         _ => &[],
     }

@@ -1,10 +1,12 @@
-//! The fitter's bench: makes a box in a folder, runs it, prints its table, reads a frame off the bus, and shows the main job.
+//! The fitter's bench: makes a box in a folder, runs it, prints its table, reads a frame off the bus, splits a year's heat, and shows
+//! the main job.
 //!
 //! `args` reads the command line. A session (`session`) has an answer (`answer`) for each command; `converse` reads the commands,
 //! at a terminal with an `editor`. What is printed fits the screen (`wrap`), and has colours on a terminal alone (`colour`).
 
 mod answer;
 mod args;
+mod bars;
 mod bus;
 mod colour;
 mod complete;
@@ -12,6 +14,7 @@ mod converse;
 mod demo;
 mod editor;
 mod file;
+mod heat;
 mod help;
 mod near;
 mod screen;
@@ -28,10 +31,11 @@ use std::process::ExitCode;
 
 use paviluko_host::files::{Disk, Fault, shown};
 use paviluko_host::folder::BoxFolder;
-use paviluko_host::runner::Runner;
+use paviluko_host::runner::{Runner, Stop};
 use paviluko_host::{Numbers, identity, secret, vault};
 
-use args::{Source, Wish, Wrong};
+use args::{Form, Source, Wish, Wrong};
+use bars::Bars;
 use colour::{Colours, Tone};
 use session::Session;
 
@@ -58,9 +62,10 @@ fn command_line() -> io::Result<u8> {
     match args::read(std::env::args_os().skip(1)) {
         Ok(Wish::New { dir, vault }) => make(&dir, vault.as_deref()),
         Ok(Wish::Run { dir, script }) => run(&dir, script.as_deref()),
-        Ok(Wish::Table { dir, csv }) => table(&dir, csv),
+        Ok(Wish::Table { dir, form }) => table(&dir, &form),
+        Ok(Wish::Heat { start, end, lines }) => heat(&start, &end, lines),
         Ok(Wish::Bus(source)) => bus(&source),
-        Ok(Wish::Demo { dir }) => demo::run(dir.as_deref()),
+        Ok(Wish::Demo { dir, heatsplit }) => demo::run(dir.as_deref(), heatsplit.as_deref()),
         Ok(Wish::Help(command)) => print(&command.map_or(args::USAGE.to_string(), |command| command.help())),
         Ok(Wish::Version) => print(&identity::lines(identity::edition(), identity::sources())),
         Err(Wrong(what)) => {
@@ -136,22 +141,56 @@ fn script_file(path: &Path) -> Result<File, Fault> {
     }
 }
 
-/// `paviluko table`: the table on standard output, all else on standard error.
-fn table(dir: &Path, csv: bool) -> io::Result<u8> {
+/// `paviluko table`: the table on standard output or in a file, all else on standard error.
+fn table(dir: &Path, form: &Form) -> io::Result<u8> {
     let mut runner = match Runner::open(dir, Disk::Wait) {
         Ok(runner) => runner,
         Err(fault) => return failed(fault),
     };
     let card = format!("Box {}, card {}.", screen::near(runner.folder().path()), screen::card(&runner));
     notice(Tone::Plain, card);
-    let readings = match runner.look() {
-        Ok(readings) => readings,
+    let (readings, plain) = match runner.look_at(|collector| (collector.readings(), heat::plain(collector))) {
+        Ok(looked) => looked,
         Err(stop) => return failed(stop),
     };
     let meters = screen::count(readings.len(), "meter");
     notice(Tone::Plain, format!("The card is taken: {meters} in the table. Vault and card stay as they are."));
-    session::table(&readings, csv).print(&mut io::stdout(), Colours::of(&io::stdout()))?;
+    let answer = match form {
+        Form::Columns | Form::Csv => session::table(&readings, *form == Form::Csv),
+        Form::Plain(path) => {
+            let written = plain.map_err(Stop::Refused).and_then(|table| {
+                runner.folder().write_out(path, &table)?;
+                Ok(heat::written(path, &table))
+            });
+            match written {
+                Ok(answer) => answer,
+                Err(stop) => return failed(stop),
+            }
+        }
+    };
+    answer.print(&mut io::stdout(), Colours::of(&io::stdout()))?;
     Ok(FINE)
+}
+
+/// `paviluko heat`: the split on standard output; that it is refused, and why, on standard error.
+fn heat(start: &Path, end: &Path, lines: bool) -> io::Result<u8> {
+    let (at_start, at_end) = match file::table(start).and_then(|table| Ok((table, file::table(end)?))) {
+        Ok(tables) => tables,
+        Err(fault) => return failed(fault),
+    };
+    match heat::split((start, &at_start), (end, &at_end)) {
+        Ok(text) if lines => print(&text),
+        Ok(text) => {
+            let answer = heat::all(&text, Bars::here());
+            answer.print(&mut io::stdout(), Colours::of(&io::stdout()))?;
+            Ok(if answer.failed { FAILED } else { FINE })
+        }
+        Err(refused) => {
+            // Where nobody reads it, the status says it all the same.
+            let _ = refused.at("paviluko: ").print(&mut io::stderr(), Colours::of(&io::stderr()));
+            Ok(FAILED)
+        }
+    }
 }
 
 /// `paviluko bus`: what a frame says on standard output; that it is refused, and why, on standard error.

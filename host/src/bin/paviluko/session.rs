@@ -12,7 +12,7 @@ use paviluko_host::{Phase, Reading, words};
 use crate::answer::{Answer, stopped};
 use crate::args::no_name;
 use crate::colour::Tone;
-use crate::{bus, file, help, screen, stamps};
+use crate::{bus, file, heat, help, screen, stamps};
 
 /// So many warnings of a file are printed, and the rest counted.
 const MOST_WARNINGS: usize = 5;
@@ -83,6 +83,7 @@ impl Session {
             ("commit", [at]) => self.commit(at),
             ("table", []) => self.table(false),
             ("table", ["--csv"]) => self.table(true),
+            ("table", ["--plain", file]) if !file.starts_with("--") => self.table_plain(file),
             ("tidy", []) => self.tidy(),
             ("point", at @ ([] | [_])) => self.point(at.first().copied()),
             ("checkpoint", []) => self.checkpoint(),
@@ -240,9 +241,24 @@ impl Session {
     fn table(&mut self, csv: bool) -> Result<Answer, Stop> {
         let collector = self.runner.collector().ok_or(Stop::Off)?;
         if collector.phase() == Phase::Cold {
-            return Ok(Answer::failed("there is no table: the box is not in service"));
+            return Ok(no_table());
         }
         Ok(table(&collector.readings(), csv))
+    }
+
+    /// Writes the table in plain to a file.
+    fn table_plain(&mut self, name: &str) -> Result<Answer, Stop> {
+        let path = Path::new(name);
+        if let Some(why) = no_name(path) {
+            return Ok(Answer::failed(format!("wrong command: {why}")));
+        }
+        let collector = self.runner.collector().ok_or(Stop::Off)?;
+        if collector.phase() == Phase::Cold {
+            return Ok(no_table());
+        }
+        let table = heat::plain(collector).map_err(Stop::Refused)?;
+        self.runner.folder().write_out(path, &table)?;
+        Ok(heat::written(path, &table))
     }
 
     fn tidy(&mut self) -> Result<Answer, Stop> {
@@ -339,6 +355,11 @@ pub fn in_service(runner: &Runner, started: &Started) -> String {
     let records = screen::count(started.records, "record");
     let meters = screen::count(meters, "meter");
     format!("in service after {} stores; {records} read from the card, {meters} in the table", started.stores)
+}
+
+/// A box that was refused has no table that a start has judged.
+fn no_table() -> Answer {
+    Answer::failed("there is no table: the box is not in service")
 }
 
 /// The table, in columns or as a list.

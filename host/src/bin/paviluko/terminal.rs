@@ -91,7 +91,7 @@ fn set(state: &termios) -> io::Result<()> {
 }
 
 /// How many columns the terminal has; 0 where it does not say.
-fn columns() -> usize {
+pub fn columns() -> usize {
     // SAFETY: a struct of numbers, of which all 0 is one; the call fills it in.
     let (said, size) = unsafe {
         let mut size: libc::winsize = std::mem::zeroed();
