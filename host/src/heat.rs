@@ -163,6 +163,13 @@ pub fn heat_meters(entries: &[Entry]) -> usize {
     entries.iter().filter(|entry| entry.code == HEAT).count()
 }
 
+/// The heat meters of a table that have no reading in the other, so that a split leaves them out.
+pub fn alone(table: &[u8], other: &[u8]) -> Vec<u8> {
+    let (Ok(here), Ok(there)) = (entries(table), entries(other)) else { return Vec::new() };
+    let heat = here.iter().filter(|entry| entry.code == HEAT).map(|entry| entry.meter);
+    heat.filter(|meter| there.iter().all(|entry| entry.meter != *meter)).collect()
+}
+
 /// What two tables are.
 #[derive(Clone, Debug, PartialEq, Eq)]
 pub enum Look {

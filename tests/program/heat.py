@@ -73,8 +73,8 @@ def check(fine, what):
         raise Wrong(what)
 
 
-def seen(text, shown, where):
-    """What is shown of a split has the numbers of its lines, a bar beside each share, and fits the screen."""
+def seen(text, start, end, shown, where):
+    """What is shown of a split has the numbers of its lines, a bar beside each share and the meters left out, and fits the screen."""
     lines = [tuple(map(int, line.split(","))) for line in text.splitlines()[1:]]
     rows = shown.splitlines()
     check(rows[0].split() == ["meter", "used", "unit", "share"], f"{where}: {rows[0]!r}")
@@ -96,10 +96,17 @@ def seen(text, shown, where):
     check(found and found.groups() == ("total", str(total), "100", "0000", None), f"{where}: {rows[len(lines) + 1]!r}")
     count = "1 heat meter" if len(lines) == 1 else f"{len(lines)} heat meters"
     check(rows[len(lines) + 2] == f"{count} in both tables", f"{where}: {rows[len(lines) + 2]!r}")
-    negative = [str(meter) for meter, used, _ in lines if used < 0]
-    note = " ".join(" ".join(rows[len(lines) + 3:]).split())
-    noun = "meter" if len(negative) == 1 else "meters"
-    check(note.startswith(f"negative use: {noun} {', '.join(negative)} w") if negative else not note, f"{where}: {note}")
+    notes = "\n".join(rows[len(lines) + 3:]).replace("\n    ", " ").split("\n")
+    wanted = []
+    for begin, behind, meters in (
+        ("negative use: meter", "w", [meter for meter, used, _ in lines if used < 0]),
+        ("not in both: heat meter", "", sorted(meter for meter in start if start[meter][0] == HEAT and meter not in end)),
+        ("not in both: heat meter", "", sorted(meter for meter in end if end[meter][0] == HEAT and meter not in start)),
+    ):
+        if meters:
+            wanted.append(f"{begin}{'s' if len(meters) > 1 else ''} {', '.join(map(str, meters))} {behind}")
+    fits = len(notes) == max(len(wanted), 1) and all(note.startswith(begin) for note, begin in zip(notes, wanted or [""]))
+    check(fits and (wanted or not notes[0]), f"{where}: {notes}, and not {wanted}")
     check(all(len(row) <= WIDTH for row in rows), f"{where}: wider than {WIDTH} columns")
 
 
@@ -120,7 +127,7 @@ def pair(program, heatsplit, start, end, where):
     for said in (lines, shown):
         check((said.returncode, said.stderr) == (0, b""), f"{where}: {said}")
     check(lines.stdout.decode() == wanted, f"{where}: {lines.stdout.decode()!r} and not {wanted!r}")
-    seen(wanted, shown.stdout.decode(), where)
+    seen(wanted, start, end, shown.stdout.decode(), where)
     return 0
 
 

@@ -340,6 +340,7 @@ total     3  kWh   100.0000 %
 4 heat meters in both tables
 negative use: meter 12 was changed during the year, or went back. Its share is 0, and it is left out
     of the total: settle it by hand
+not in both: heat meter 255 is in end.table alone, and is left out: settle it by hand
 END
 [ ! -s "$place/err" ] || fail "a split, and: $(cat "$place/err")"
 for words in 'heat --lines start.table end.table' 'heat start.table end.table --lines'; do

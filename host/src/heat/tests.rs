@@ -200,6 +200,14 @@ fn the_widest_uses() {
 }
 
 #[test]
+fn heat_meters_of_one_table_alone() {
+    let (start, end) =
+        (table(&[(4, 3, 1), (5, 3, 1), (6, 1, 1)]), table(&[(5, 3, 2), (6, 3, 1), (7, 3, 1), (8, 2, 1)]));
+    assert_eq!((alone(&start, &end), alone(&end, &start)), (vec![4], vec![7]));
+    assert_eq!((alone(&start, &start), alone(&start, &[])), (vec![], vec![]));
+}
+
+#[test]
 fn only_a_split_s_text_is_taken_apart() {
     assert_eq!(Split::read("meter,used,share\n"), Some(Split { lines: vec![] }));
     for bad in [

@@ -57,9 +57,10 @@ const HEAT: &str = "\
 Prints what each heat meter of a house used in a year, in kWh, and its share of the house in percent
 and as a bar; the longest is that of the largest share. START and END are the tables of the start
 and the end of the year, in plain, as table --plain writes them. Listed are the meters that are heat
-meters in both. A meter that shows less at the end than at the start has a negative use: its share
-is 0, and it is left out of the total. All numbers are the proved library's, the same that the
-program heatsplit prints. What is refused (4, 18, 19) is refused on standard error, with the reason.
+meters in both; those that are in one alone are named below. A meter that shows less at the end than
+at the start has a negative use: its share is 0, and it is left out of the total. Uses and shares
+are the proved library's, the same that the program heatsplit prints. What is refused (4, 18, 19) is
+refused on standard error, with the reason.
 
   --lines   prints the lines of heatsplit alone: meter,used,share, with shares in millionths
 ";

@@ -24,6 +24,7 @@ use paviluko_host::{FILE_LEN, HEAD_LEN, LANES, METERS, Reading, Refusal, SEAL_LE
 
 use crate::bars::Bars;
 use crate::colour::{Colours, Tone};
+use crate::heat::Filed;
 use crate::wrap::{INDENT, wrap};
 use crate::{heat, screen};
 
@@ -499,7 +500,8 @@ impl Demo {
         self.say(&format!(
             "the table written in plain, {bytes} bytes; every meter read a year later; and written again"
         ))?;
-        let Ok(text) = heat::split((&start, &at_start), (&end, &at_end)) else {
+        let filed = |path, bytes| Filed { path, bytes };
+        let Ok(text) = heat::split(filed(&start, &at_start), filed(&end, &at_end)) else {
             return wrong("the tables of a year were refused");
         };
         let split = self.check_split(&text, &before)?;

@@ -33,12 +33,19 @@ pub fn written(path: &Path, table: &[u8]) -> Answer {
     Answer::fine(format!("plain table written to {path}, {bytes}: {meters} with a reading, {heat}"))
 }
 
-/// The library's text of a split, from the start's table and the end's, each with the name of its file; or the answer where they are
-/// refused. A table of another length is none, whatever stands beside it: that is said before the library is asked.
-pub fn split(start: (&Path, &[u8]), end: (&Path, &[u8])) -> Result<String, Answer> {
-    let look = heat::look(start.1, end.1);
+/// A table that is in a file.
+#[derive(Clone, Copy)]
+pub struct Filed<'a> {
+    pub path: &'a Path,
+    pub bytes: &'a [u8],
+}
+
+/// The library's text of a split, from the start's table and the end's; or the answer where they are refused. A table of another length
+/// is none, whatever stands beside it: that is said before the library is asked.
+pub fn split(start: Filed, end: Filed) -> Result<String, Answer> {
+    let look = heat::look(start.bytes, end.bytes);
     let why = |answer: Answer| {
-        let said = look.why([&shown(start.0), &shown(end.0)]);
+        let said = look.why([&shown(start.path), &shown(end.path)]);
         said.into_iter().fold(answer, |answer, why| answer.and(Tone::Bad, format!("why: {why}")))
     };
     let refused = |refusal: Refusal| answer::refused(&refusal, &[words::NO_TABLE]);
@@ -46,7 +53,7 @@ pub fn split(start: (&Path, &[u8]), end: (&Path, &[u8])) -> Result<String, Answe
         return Err(why(refused(Refusal { number: look.number(), value: 0 })));
     }
     let mut out = vec![0; HEAT_TEXT_LEN];
-    match heat::heat_split(&[start.1, end.1].concat(), &mut out) {
+    match heat::heat_split(&[start.bytes, end.bytes].concat(), &mut out) {
         Ok(taken) => {
             out.truncate(taken.len);
             String::from_utf8(out).map_err(|_| no_text())
@@ -56,17 +63,16 @@ pub fn split(start: (&Path, &[u8]), end: (&Path, &[u8])) -> Result<String, Answe
     }
 }
 
-/// A split's text on the screen: a line for each meter, with a bar of its share.
-pub fn all(text: &str, bars: Bars) -> Answer {
+/// A split's text on the screen: a line for each meter, with a bar of its share; and the meters that it leaves out.
+pub fn all(text: &str, start: Filed, end: Filed, bars: Bars) -> Answer {
     let Some(split) = Split::read(text) else { return no_text() };
     let lines = lines(&split, bars);
     let (heading, rows) = lines.split_at(lines.find('\n').map_or(0, |end| end + 1));
     let answer = Answer::default().and(Tone::Heading, heading).and(Tone::Plain, rows);
     let answer = answer.and(Tone::Plain, format!("{} in both tables", count(split.lines.len(), "heat meter")));
-    match split.negative()[..] {
-        [] => answer,
-        ref meters => answer.and(Tone::Warning, negative(meters)),
-    }
+    let negative = Some(split.negative()).filter(|meters| !meters.is_empty()).map(|meters| negative(&meters));
+    let notes = [negative, alone(start, end), alone(end, start)];
+    notes.into_iter().flatten().fold(answer, |answer, note| answer.and(Tone::Warning, note))
 }
 
 /// The lines: a heading, the meters, the total.
@@ -102,6 +108,22 @@ pub fn negative(meters: &[u8]) -> String {
              out of the total: settle them by hand",
             names.join(", ")
         ),
+    }
+}
+
+/// What is said of the heat meters that a table has alone.
+fn alone(table: Filed, other: Filed) -> Option<String> {
+    let names: Vec<String> = heat::alone(table.bytes, other.bytes).iter().map(u8::to_string).collect();
+    let path = shown(table.path);
+    match &names[..] {
+        [] => None,
+        [name] => {
+            Some(format!("not in both: heat meter {name} is in {path} alone, and is left out: settle it by hand"))
+        }
+        _ => {
+            let names = names.join(", ");
+            Some(format!("not in both: heat meters {names} are in {path} alone, and are left out: settle them by hand"))
+        }
     }
 }
 
@@ -142,6 +164,7 @@ mod tests {
 
     #[test]
     fn what_is_no_text() {
-        assert!(all("refused 4\n", Bars::here()).failed);
+        let none = Filed { path: Path::new("a"), bytes: &[] };
+        assert!(all("refused 4\n", none, none, Bars::here()).failed);
     }
 }

@@ -37,6 +37,7 @@ use paviluko_host::{Numbers, identity, secret, vault};
 use args::{Form, Source, Wish, Wrong};
 use bars::Bars;
 use colour::{Colours, Tone};
+use heat::Filed;
 use session::Session;
 
 const FINE: u8 = 0;
@@ -178,10 +179,11 @@ fn heat(start: &Path, end: &Path, lines: bool) -> io::Result<u8> {
         Ok(tables) => tables,
         Err(fault) => return failed(fault),
     };
-    match heat::split((start, &at_start), (end, &at_end)) {
+    let (start, end) = (Filed { path: start, bytes: &at_start }, Filed { path: end, bytes: &at_end });
+    match heat::split(start, end) {
         Ok(text) if lines => print(&text),
         Ok(text) => {
-            let answer = heat::all(&text, Bars::here());
+            let answer = heat::all(&text, start, end, Bars::here());
             answer.print(&mut io::stdout(), Colours::of(&io::stdout()))?;
             Ok(if answer.failed { FAILED } else { FINE })
         }
