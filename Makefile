@@ -8,7 +8,7 @@ DESTDIR ?=
 
 help:
 	@echo 'make help        prints this, as make alone does'
-	@echo 'make run         builds the proved library and shows a box at work; once built, a few seconds'
+	@echo 'make run         builds the proved library and shows a box at work, and a year'"'"'s heat split; once built, a few seconds'
 	@echo 'make lib         proves and builds target/staticlib/libpaviluko.a, and prints its identity; some five minutes at first'
 	@echo 'make install     puts header, archive, pkg-config file and man page below PREFIX (/usr/local; DESTDIR before it)'
 	@echo 'make uninstall   takes them away again, from the same PREFIX and DESTDIR'
