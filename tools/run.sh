@@ -41,6 +41,7 @@ build_heatsplit() {
     fi
     rm -rf "$scratch"
     trap - EXIT HUP INT PIPE TERM
+    [ -x "$heatsplit" ] || { echo "rt check heatsplit left no $heatsplit" >&2; exit 1; }
     # Where nothing had to be built it is as old as before, and of these sources all the same.
     touch "$heatsplit"
 }

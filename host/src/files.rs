@@ -349,3 +349,34 @@ pub mod scratch {
         }
     }
 }
+
+#[cfg(test)]
+mod tests {
+    use std::fs;
+
+    use super::scratch::Scratch;
+    use super::*;
+
+    #[test]
+    fn a_new_file_is_whole_or_not_there() {
+        for steps in 0.. {
+            let scratch = Scratch::new();
+            let path = scratch.path().join("file");
+            power::fails_after(steps);
+            let said = write_new(&path, b"all of it", 0o644, Disk::Wait);
+            let failed = power::back();
+            match fs::read(&path) {
+                Ok(bytes) => assert_eq!(bytes, b"all of it", "after {steps} steps"),
+                Err(_) => assert!(said.is_err(), "said to be done after {steps} steps"),
+            }
+            if !failed {
+                said.expect("written");
+                assert_eq!(fs::read_dir(scratch.path()).expect("there").count(), 1);
+                assert!(steps > 2, "{steps} steps");
+                assert!(write_new(&path, b"another", 0o644, Disk::Wait).is_err_and(|fault| !fault.is_no_room()));
+                assert_eq!(fs::read(&path).expect("read"), b"all of it");
+                return;
+            }
+        }
+    }
+}

@@ -149,8 +149,8 @@ def held(programs, document):
         found = list(sessions(file.read()))
     if not found:
         raise Wrong(f"{document} has no session")
-    missing = [name for name, path in programs.items() if not os.path.exists(path)]
-    kept = [(start, block) for start, block in found if not any(runs(block, name) for name in missing)]
+    built = os.path.exists(programs[HEATSPLIT])
+    kept = [(start, block) for start, block in found if built or not runs(block, HEATSPLIT)]
     for start, block in kept:
         with tempfile.TemporaryDirectory() as folder:
             for name, path in programs.items():

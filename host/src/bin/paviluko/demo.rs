@@ -650,10 +650,13 @@ fn rows(text: &str, (first, last): (usize, usize)) -> io::Result<()> {
 fn through(program: &Path, bytes: &[u8]) -> Result<Vec<u8>, Trouble> {
     let run = || -> io::Result<_> {
         let mut child = Command::new(program).stdin(Stdio::piped()).stdout(Stdio::piped()).spawn()?;
-        // Two tables are not more than a pipe holds.
+        // Two tables are not more than a pipe holds. A program need not read them all: what it prints is looked at.
         let written = child.stdin.take().map_or(Ok(()), |mut stdin| stdin.write_all(bytes));
         let output = child.wait_with_output()?;
-        written.map(|()| output)
+        match written {
+            Err(error) if error.kind() != io::ErrorKind::BrokenPipe => Err(error),
+            _ => Ok(output),
+        }
     };
     let output = run().map_err(Fault::unusable(program))?;
     if output.status.success() { Ok(output.stdout) } else { wrong(format!("{}: {}", shown(program), output.status)) }

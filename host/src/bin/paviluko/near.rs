@@ -38,7 +38,7 @@ mod tests {
 
     #[test]
     fn slips_are_seen() {
-        let words = ["new", "run", "table", "bus", "demo", "take", "take-bus", "swap-card"];
+        let words = ["new", "run", "table", "heat", "bus", "demo", "take", "take-bus", "swap-card"];
         for (written, meant) in [
             ("nwe", Some("new")),
             ("NEW", Some("new")),
@@ -47,6 +47,7 @@ mod tests {
             ("rn", Some("run")),
             ("takebus", Some("take-bus")),
             ("bsu", Some("bus")),
+            ("haet", Some("heat")),
             ("sell", None),
             ("x", None),
             ("", None),
