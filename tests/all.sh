@@ -46,6 +46,7 @@ esac
 sh tools/lib.sh
 beside histories
 beside bus
+beside heat
 beside program
 beside crash
 beside faults
@@ -60,7 +61,7 @@ beside install
 sh tests/axioms.sh paviluko test_sealed test_cipher
 
 failed=
-for test in cipher sealed boundary firmware histories bus program crash faults install; do
+for test in cipher sealed boundary firmware histories bus heat program crash faults install; do
     shown "$test" || failed="$failed $test"
 done
 if [ -n "$failed" ]; then

@@ -19,21 +19,6 @@ impl Library {
     }
 }
 
-// The host's crate declares the rest of the C boundary.
-unsafe extern "C" {
-    fn paviluko_heat_split(tables: *const u8, len: usize, out: *mut u8, room: usize) -> ffi::Said;
-    fn paviluko_plain_table(s: ffi::State, out: *mut u8, room: usize) -> ffi::Said;
-}
-
-/// What a call says that names no store: one that it names all the same has a place in the answer too.
-fn without_store(said: &ffi::Said) -> Answer {
-    let ffi::Said { value, len, number, store, lane } = *said;
-    match number {
-        0 => Ok(Taken { store: (store != 0).then_some(Store::W { lane, value }), len: len as usize }),
-        _ => Err(Refusal { number, value }),
-    }
-}
-
 /// A number for each lane.
 fn lanes(numbers: &[u64]) -> [u64; LANES] {
     std::array::from_fn(|i| numbers.get(i).copied().unwrap_or(0))
@@ -202,15 +187,11 @@ impl Device for Library {
     fn plain_table(&self, out: &mut [u8]) -> Answer {
         // There is a state.
         let collector = self.collector.as_ref().ok_or(Refusal { number: 0, value: 0 })?;
-        // SAFETY: the output is written within its length alone.
-        let said = unsafe { paviluko_plain_table(*collector.state(), out.as_mut_ptr(), out.len()) };
-        without_store(&said)
+        answer(collector.plain_table(out))
     }
 
     fn split(&self, tables: &[u8], out: &mut [u8]) -> Answer {
-        // SAFETY: the tables' bytes are read for their length alone, the output is written within its own.
-        let said = unsafe { paviluko_heat_split(tables.as_ptr(), tables.len(), out.as_mut_ptr(), out.len()) };
-        without_store(&said)
+        answer(paviluko_host::heat_split(tables, out))
     }
 
     fn cut(&mut self) {
