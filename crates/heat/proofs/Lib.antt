@@ -4,8 +4,13 @@ pub mod SignedLaws
 pub mod SumLaws
 pub mod UsesLaws
 pub mod TextLaws
+pub mod RowLaws
 pub mod SplitLaws
+pub mod LengthLaws
+pub mod ExampleLaws
+pub mod Theorem
 pub mod PrintLaws
 pub mod RankLaws
 pub mod ShareLaws
+pub mod ListedLaws
 pub mod DividedLaws

@@ -15,17 +15,13 @@ use Rattle.octets.proofs.EveryLaws.{and-both}
 use Rattle.table.proofs.OrderLaws.{clash}
 use Rattle.heat.specs.Sums.{sumBelow, countBelow}
 use Rattle.heat.specs.Shares.{before}
+use Rattle.heat.specs.Claim.{Sooner, larger, lower}
 use Rattle.heat.proofs.SumLaws.{count-more, count-same, count-le, count-less}
 
 -- ---- the order
 
--- in words
-pub data Sooner (r : ℕ → ℕ) (k m : ℕ) : Type 0 where
-  larger : r m < r k → Sooner r k m
-  lower : r m ≡ r k → k < m → Sooner r k m
-
 module _ (r : ℕ → ℕ) where
-  sooner : (k m : ℕ) → before r k m ≡ true → Sooner r k m
+  pub sooner : (k m : ℕ) → before r k m ≡ true → Sooner r k m
   unfolding before
   sooner k m = go (ltb (r m) (r k)) (eqb (r m) (r k)) (ltb k m) refl refl refl
     where

@@ -14,7 +14,8 @@ use Rattle.transaction.specs.Transaction.{meters}
 use Rattle.heat.specs.Sums.{sumBelow, countBelow}
 use Rattle.heat.specs.Shares.{house, total, floor, remainder, missing, before, rank, share}
 use Rattle.heat.proofs.SumLaws.{sum-same, count-same, sum-add, sum-times, sum-le, sum-part, bit-le}
-use Rattle.heat.proofs.RankLaws.{lower, larger, sooner-is, ahead-le, few-are}
+use Rattle.heat.specs.Claim.{Sooner, lower, larger}
+use Rattle.heat.proofs.RankLaws.{sooner, sooner-is, before-other, ahead-le, few-are}
 
 -- ---- where the uses are equal, meter by meter, so are the shares
 
@@ -127,6 +128,26 @@ greater-use l g some k m hk hm lk lm h =
     (λ e. share-before l g k m e (sooner-is (remainder g) m k (larger (omega (arith, parts g k, parts g m, ap (λ (f : ℕ). f * total g) e)))))
     (λ q. omega (arith, share-near l g k, share-near l g m))
     (eq-or-lt-of-le (floor-le g some k m (omega arith)))
+
+-- whoever gets a unit comes before whoever gets none
+pub units-to-the-largest : (l : ℕ → Bool) (g : ℕ → ℕ) (k m : ℕ) → share l g m ≡ floor g m + 1 → share l g k ≡ floor g k → Sooner (remainder g) m k
+unfolding share rank
+units-to-the-largest l g k m hm hk = go (gets l g m) (gets l g k) refl refl hm hk (before (remainder g) m k) refl
+  where
+    fewer : gets l g m ≡ true → gets l g k ≡ false → rank l (remainder g) m < rank l (remainder g) k
+    fewer x y = omega (arith, ltb-true (rank l (remainder g) m) (missing g) x, ltb-false (rank l (remainder g) k) (missing g) y)
+
+    other : gets l g m ≡ true → gets l g k ≡ false → before (remainder g) m k ≡ false → ⊥
+    other x y z =
+        let apart : m ≡ k → ⊥ = λ e. omega (arith, fewer x y, ap (rank l (remainder g)) e) in
+        omega (arith, fewer x y, ahead-le l (remainder g) meters k m (before-other (remainder g) m k apart z))
+
+    go : (a b : Bool) → gets l g m ≡ a → gets l g k ≡ b → floor g m + cond a 1 0 ≡ floor g m + 1 → floor g k + cond b 1 0 ≡ floor g k → (c : Bool) → before (remainder g) m k ≡ c
+        → Sooner (remainder g) m k
+    go true false x y p q true z = sooner (remainder g) m k z
+    go true false x y p q false z = absurd (other x y z)
+    go true true x y p q c z = absurd (omega arith)
+    go false b x y p q c z = absurd (omega arith)
 
 -- ---- the units that are missing
 

@@ -7,3 +7,4 @@ pub mod Text
 pub mod Rows
 pub mod Answer
 pub mod Plain
+pub mod Claim
