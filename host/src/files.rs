@@ -122,14 +122,7 @@ pub fn replace(folder: &Dir, name: &str, bytes: &[u8], mode: u32, disk: Disk) ->
 pub fn put(folder: &Dir, name: &str, bytes: &[u8], mode: u32, disk: Disk) -> Result<(), Fault> {
     let first = format!(".{name}{UNFINISHED}");
     let write = || -> io::Result<()> {
-        let mut file = folder.create(&first, mode)?;
-        step()?;
-        file.write_all(bytes)?;
-        match disk {
-            Disk::Wait => file.sync_all()?,
-            Disk::Quick => {}
-        }
-        drop(file);
+        write_unfinished(folder, &first, bytes, mode, disk)?;
         match folder.rename(&first, name) {
             // A folder has the name.
             Err(error) if error.kind() == io::ErrorKind::IsADirectory => {
@@ -146,6 +139,17 @@ pub fn put(folder: &Dir, name: &str, bytes: &[u8], mode: u32, disk: Disk) -> Res
     })
 }
 
+/// Writes a file under the name that it has until it is complete.
+fn write_unfinished(folder: &Dir, name: &str, bytes: &[u8], mode: u32, disk: Disk) -> io::Result<()> {
+    let mut file = folder.create(name, mode)?;
+    step()?;
+    file.write_all(bytes)?;
+    match disk {
+        Disk::Wait => file.sync_all(),
+        Disk::Quick => Ok(()),
+    }
+}
+
 /// Writes a file that is not there yet, whole or not at all: it has its name once it is complete, and is on the disk.
 pub fn write_new(path: &Path, bytes: &[u8], mode: u32, disk: Disk) -> Result<(), Fault> {
     if path.is_dir() {
@@ -160,18 +164,9 @@ pub fn write_new(path: &Path, bytes: &[u8], mode: u32, disk: Disk) -> Result<(),
     }
     // A name of its own until it is complete; what a cut leaves of it is in nobody's way.
     let unfinished = format!(".{}.{}{UNFINISHED}", name.to_string_lossy(), std::process::id());
-    let write = || -> io::Result<()> {
-        let mut file = above.create(&unfinished, mode)?;
-        step()?;
-        file.write_all(bytes)?;
-        match disk {
-            Disk::Wait => file.sync_all()?,
-            Disk::Quick => {}
-        }
-        drop(file);
-        above.rename(&unfinished, name)
-    };
-    write().map_err(|error| {
+    let written =
+        write_unfinished(&above, &unfinished, bytes, mode, disk).and_then(|()| above.rename(&unfinished, name));
+    written.map_err(|error| {
         // What is there of it takes up room.
         let _ = above.remove(&unfinished);
         Fault::unusable(path)(error)

@@ -37,6 +37,8 @@ pub mod folder;
 pub mod heat;
 pub mod identity;
 pub mod limits;
+#[cfg(test)]
+mod random;
 pub mod runner;
 pub mod secret;
 pub mod transaction;

@@ -8,27 +8,13 @@
 #include <stdlib.h>
 
 #include "frame.h"
+#include "random.h"
 #include "same.h"
 #include "table.h"
 
 static uint64_t calls, refused;
 
-/* ---- random numbers: splitmix64 ---- */
-
-static uint64_t seed = 1;
-
-static uint64_t any(void)
-{
-    uint64_t z = seed += UINT64_C(0x9e3779b97f4a7c15);
-    z = (z ^ (z >> 30)) * UINT64_C(0xbf58476d1ce4e5b9);
-    z = (z ^ (z >> 27)) * UINT64_C(0x94d049bb133111eb);
-    return z ^ (z >> 31);
-}
-
-static uint64_t below(uint64_t end)
-{
-    return any() % end;
-}
+/* ---- random numbers ---- */
 
 /* A number that is small, or near the maximum, or any. */
 static uint64_t number(void)

@@ -12,6 +12,7 @@
  * Buffers have their exact length on the heap, so that valgrind sees every byte read or written beside them. A call that is
  * turned down has left every byte as it was lent, and one that is taken every byte behind what it put out. */
 #include "check.h"
+#include "random.h"
 #include "rooms.h"
 #include "same.h"
 #include "table.h"
@@ -179,21 +180,7 @@ static void every_room(size_t step)
     }
 }
 
-/* ---- random numbers: splitmix64 ---- */
-
-static uint64_t any(void)
-{
-    static uint64_t seed = 5;
-    uint64_t z = seed += UINT64_C(0x9e3779b97f4a7c15);
-    z = (z ^ (z >> 30)) * UINT64_C(0xbf58476d1ce4e5b9);
-    z = (z ^ (z >> 27)) * UINT64_C(0x94d049bb133111eb);
-    return z ^ (z >> 31);
-}
-
-static uint64_t below(uint64_t end)
-{
-    return any() % end;
-}
+/* ---- random numbers ---- */
 
 static void fill(uint8_t *bytes, size_t len)
 {

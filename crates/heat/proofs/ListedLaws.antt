@@ -26,10 +26,6 @@ use Rattle.heat.proofs.ShareLaws as shares
 -- ---- listed
 
 module _ (s e : Table) (m : ℕ) where
-  pub heat-listed : HeatInBoth s e m → listed s e m ≡ true
-  unfolding listed heatInBoth
-  heat-listed h = rw (h .inStart, h .inEnd, eq-eqb (entryFor s m .code) heatCode (h .heatInStart), eq-eqb (entryFor e m .code) heatCode (h .heatInEnd))
-
   pub listed-heat : listed s e m ≡ true → HeatInBoth s e m
   unfolding listed heatInBoth
   listed-heat t =
@@ -44,6 +40,10 @@ module _ (s e : Table) (m : ℕ) where
         heatInEnd = eqb-true (b .code) heatCode (and-right (inBoth a b && isHeat a) (isHeat b) t);
       }
 
+  pub heat-listed : HeatInBoth s e m → listed s e m ≡ true
+  unfolding listed heatInBoth
+  heat-listed h = rw (h .inStart, h .inEnd, eq-eqb (entryFor s m .code) heatCode (h .heatInStart), eq-eqb (entryFor e m .code) heatCode (h .heatInEnd))
+
 -- ---- changed
 
 one-of : (x y : Bool) → ((x && not y) || (not x && y)) ≡ true → ((x ≡ true) × (y ≡ false)) ⊎ ((x ≡ false) × (y ≡ true))
@@ -53,14 +53,6 @@ one-of false true e = inr (refl, refl)
 one-of false false e = clash (sym e)
 
 module _ (s e : Table) (m : ℕ) where
-  pub one-changed : HeatInOne s e m → codeChanged s e m ≡ true
-  unfolding codeChanged heatInOne
-  one-changed h =
-      ⊎-elim
-      (λ c. rw (h .inStart, h .inEnd, eq-eqb (entryFor s m .code) heatCode (c .0), ne-eqb (entryFor e m .code) heatCode (c .1)))
-      (λ c. rw (h .inStart, h .inEnd, ne-eqb (entryFor s m .code) heatCode (c .0), eq-eqb (entryFor e m .code) heatCode (c .1)))
-      (h .changed)
-
   pub changed-one : codeChanged s e m ≡ true → HeatInOne s e m
   unfolding codeChanged heatInOne
   changed-one t =
@@ -73,6 +65,14 @@ module _ (s e : Table) (m : ℕ) where
         inEnd = and-right (a .present) (b .present) here;
         changed = ⊎-elim (λ c. inl (eqb-true (a .code) heatCode (c .0), eqb-false (b .code) heatCode (c .1))) (λ c. inr (eqb-false (a .code) heatCode (c .0), eqb-true (b .code) heatCode (c .1))) (one-of (isHeat a) (isHeat b) (and-right (inBoth a b) x t));
       }
+
+  pub one-changed : HeatInOne s e m → codeChanged s e m ≡ true
+  unfolding codeChanged heatInOne
+  one-changed h =
+      ⊎-elim
+      (λ c. rw (h .inStart, h .inEnd, eq-eqb (entryFor s m .code) heatCode (c .0), ne-eqb (entryFor e m .code) heatCode (c .1)))
+      (λ c. rw (h .inStart, h .inEnd, ne-eqb (entryFor s m .code) heatCode (c .0), eq-eqb (entryFor e m .code) heatCode (c .1)))
+      (h .changed)
 
 any-of : (p : ℕ → Bool) (n i : ℕ) → i < n → p i ≡ true → anyBelow p n ≡ true
 unfolding anyBelow

@@ -4,34 +4,10 @@ use std::collections::BTreeMap;
 
 use super::*;
 use crate::limits::ONE_WRITE_LEN;
+use crate::random::Random;
 
 /// So many frames are drawn.
 const FRAMES: usize = 300_000;
-
-/// Numbers from a fixed seed (xorshift).
-struct Random(u64);
-
-impl Random {
-    fn below(&mut self, limit: usize) -> usize {
-        self.0 ^= self.0 << 13;
-        self.0 ^= self.0 >> 7;
-        self.0 ^= self.0 << 17;
-        ((self.0 >> 11) % limit as u64) as usize
-    }
-
-    fn byte(&mut self) -> u8 {
-        self.below(256) as u8
-    }
-
-    fn pick(&mut self, list: &[u8]) -> u8 {
-        list[self.below(list.len())]
-    }
-
-    /// Once in so many times.
-    fn rarely(&mut self, times: usize) -> bool {
-        self.below(times) == 0
-    }
-}
 
 /// A frame of these L bytes, which are at most 255.
 fn framed(body: &[u8]) -> Vec<u8> {

@@ -4,28 +4,12 @@ use std::collections::BTreeMap;
 
 use super::*;
 use crate::limits::HEAT_TEXT_LEN;
+use crate::random::Random;
 
 /// So many pairs of tables are drawn.
 const PAIRS: usize = 20_000;
 /// What the output has before a call.
 const BEFORE: u8 = 0xa5;
-
-/// Numbers from a fixed seed (xorshift).
-struct Random(u64);
-
-impl Random {
-    fn below(&mut self, limit: usize) -> usize {
-        self.0 ^= self.0 << 13;
-        self.0 ^= self.0 >> 7;
-        self.0 ^= self.0 << 17;
-        ((self.0 >> 11) % limit as u64) as usize
-    }
-
-    /// Once in so many times.
-    fn rarely(&mut self, times: usize) -> bool {
-        self.below(times) == 0
-    }
-}
 
 /// A plain table of these meters, each with a code and a reading.
 fn table(readings: &[(u8, u8, i32)]) -> Vec<u8> {
