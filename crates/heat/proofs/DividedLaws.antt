@@ -1,11 +1,11 @@
 -- Shares from the arrays that the code has: the gains, the remainders and what the floors add up to.
 -- Assumes nothing.
 use Prim.Native.Nat.{ℕ, _+_, _-_, _*_, _/_, _%_, _<_, _≤_}
-use mathlib.Core.Path.{_≡_, refl, sym, ap, ap₂, _∙_}
+use mathlib.Core.Path.{_≡_, refl, ap, ap₂, _∙_}
 use mathlib.Core.Bool.{Bool, cond}
 use mathlib.Core.List.{List}
 use native.Mathlib.Omega.{arith}
-use lib.Dec.{ltb, eqb}
+use lib.Dec.{ltb}
 use Rattle.octets.specs.Lists.{at, tab}
 use Rattle.octets.proofs.Build.{at-tab}
 use Rattle.transaction.specs.Transaction.{meters}

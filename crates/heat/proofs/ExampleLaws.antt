@@ -1,12 +1,11 @@
 -- The request's example: with the total, 3, and the one unit that is missing in hand, the lines are computed.
 -- Assumes nothing.
 use Prim.Native.Nat.{ℕ, zero, suc, _+_, _*_, _/_, _%_, _<_}
-use mathlib.Core.Path.{_≡_, refl, sym, ap, ap₂, _∙_}
-use mathlib.Core.Bool.{Bool, true, false, cond, _&&_, _||_}
+use mathlib.Core.Path.{_≡_, refl, ap, ap₂, _∙_}
+use mathlib.Core.Bool.{false, cond}
 use mathlib.Core.List.{List, [], _++_}
 use native.Mathlib.Omega.{arith}
 use lib.Dec.{ltb}
-use lib.ListN.{length}
 use Rattle.transaction.specs.Transaction.{meters}
 use Rattle.table.specs.declared.Table.{Table}
 use Rattle.heat.specs.Sums.{sumBelow, countBelow, anyBelow}

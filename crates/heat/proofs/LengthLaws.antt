@@ -1,29 +1,29 @@
 -- Tables read from their texts, how long the text of their split is, and what the first bytes of an input decide.
 -- Assumes nothing.
-use Prim.Native.Nat.{ℕ, zero, suc, _+_, _*_, _^_, _<_, _≤_}
-use mathlib.Core.Path.{_≡_, refl, sym, ap, ap₂, subst, _∙_}
+use Prim.Native.Nat.{ℕ, zero, suc, _*_, _^_, _<_, _≤_}
+use mathlib.Core.Path.{_≡_, refl, sym, ap, ap₂, _∙_}
 use mathlib.Core.Bool.{Bool, true, false, cond}
-use mathlib.Core.List.{List, [], _++_}
+use mathlib.Core.List.{List, [], _∷_, _++_}
 use native.Mathlib.Omega.{arith}
 use lib.Dec.{ltb}
-use lib.IntN.{ℤ}
-use lib.ListN.{length, take, drop, length-append}
+use lib.ListN.{length, getD, take, drop, length-append}
 use lib.Seq.{take-all, take-at, drop-at, length-take-le}
 use lib.Signed.{mag}
 use borrow.Author.Tests.{ltb-true, ltb-false}
+use Rattle.octets.proofs.BoolLaws.{and-left, and-right}
 use Rattle.transaction.specs.Transaction.{meters}
 use Rattle.table.specs.declared.Entry.{Entry}
 use Rattle.table.specs.declared.Table.{Table}
-use Rattle.table.specs.Table.{noEntry, entryFor}
+use Rattle.table.specs.Table.{entryFor}
 use Rattle.table.specs.Canonical.{Canonical, absent, present, CanonicalTable}
 use Rattle.table.specs.TableText.{tableLen, tableText, isTable, tableFrom}
 use Rattle.table.proofs.TextLaws.{length-table}
-use Rattle.table.proofs.RoundTrip.{text-is-table, table-back}
+use Rattle.table.proofs.RoundTrip.{text-is-table, table-back, from-canonical}
 use Rattle.protocol.specs.Said.{Told}
 use Rattle.heat.specs.Uses.{listed, difference, used, gain}
 use Rattle.heat.specs.Shares.{share}
-use Rattle.heat.specs.Text.{heading, line, shareOf, lineOf, linesBelow, splitText, lineMax, textMax}
-use Rattle.heat.specs.Answer.{startTable, endTable, twoTables, splitOf, heatSplit, shownBy, printed}
+use Rattle.heat.specs.Text.{line, shareOf, lineOf, linesBelow, splitText, lineMax, textMax}
+use Rattle.heat.specs.Answer.{startBytes, endBytes, startTable, endTable, twoTables, splitOf, heatSplit, shownBy, printed}
 use Rattle.heat.proofs.SignedLaws.{difference-small}
 use Rattle.heat.proofs.ShareLaws.{share-most}
 use Rattle.heat.proofs.TextLaws.{length-line, length-split}
@@ -76,6 +76,26 @@ module _ (s e : Table) (cs : CanonicalTable s) (ce : CanonicalTable e) where
     where
       two : twoTables (tableText s ++ tableText e) ≡ true
       two = unfold twoTables in rw (first-text, second-text, text-is-table s cs, text-is-table e ce)
+
+-- ---- of any bytes there is room
+
+take-bytes : (n : ℕ) (b : List ℕ) → ((i : ℕ) → getD b i 0 < 256) → (i : ℕ) → getD (take n b) i 0 < 256
+take-bytes zero b h i = omega arith
+take-bytes (suc n) [] h i = omega arith
+take-bytes (suc n) (x ∷ b) h zero = h zero
+take-bytes (suc n) (x ∷ b) h (suc i) = take-bytes n b (λ j. h (suc j)) i
+
+drop-bytes : (n : ℕ) (b : List ℕ) → ((i : ℕ) → getD b i 0 < 256) → (i : ℕ) → getD (drop n b) i 0 < 256
+drop-bytes zero b h i = h i
+drop-bytes (suc n) [] h i = omega arith
+drop-bytes (suc n) (x ∷ b) h i = drop-bytes n b (λ j. h (suc j)) i
+
+pub room-enough : (b : List ℕ) → ((i : ℕ) → getD b i 0 < 256) → twoTables b ≡ true → length (splitText (startTable b) (endTable b)) ≤ textMax
+unfolding twoTables
+room-enough b h t =
+    let first = and-left (isTable (startBytes b)) (isTable (endBytes b)) t in
+    let second = and-right (isTable (startBytes b)) (isTable (endBytes b)) t in
+    text-is-short (startTable b) (endTable b) (from-canonical (startBytes b) (take-bytes tableLen b h) first) (from-canonical (endBytes b) (drop-bytes tableLen b h) second)
 
 -- ---- the first bytes
 

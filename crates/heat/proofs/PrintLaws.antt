@@ -9,7 +9,6 @@ use lib.ListN.{length, drop, length-append}
 use native.Mathlib.Omega.{arith}
 use borrow.Author.Tests.{ltb-false}
 use Rattle.octets.specs.Lists.{putOver}
-use Rattle.table.specs.declared.Table.{Table}
 use Rattle.protocol.specs.declared.Store.the-variants as S
 use Rattle.protocol.specs.Said.{Said, refused, taken, Told, turnDown}
 use Rattle.heat.specs.Uses.{gain}

@@ -2,11 +2,12 @@
 -- Assumes nothing.
 use Prim.Native.Nat.{ℕ, zero, suc, _^_, _<_}
 use mathlib.Core.Path.{_≡_, refl, sym, ap, subst, _∙_}
-use mathlib.Core.Bool.{Bool, true, false}
+use mathlib.Core.Bool.{Bool, true, false, not}
 use mathlib.Core.List.{List, [], _∷_, _++_, List·Memᴰ}
 use native.Mathlib.Omega.{arith}
 use lib.Dec.{ltb, eqb}
 use lib.IntN.{_-ℤ_}
+use borrow.Author.Tests.{not-false, ltb-true}
 use lib.ListN.{length, getD, set, replicate}
 use Rattle.transaction.specs.Transaction.{meters}
 use Rattle.table.specs.declared.Entry.{Entry}
@@ -21,12 +22,12 @@ use Rattle.heat.specs.Uses.{difference, used, gain}
 use Rattle.heat.specs.Shares.{total}
 use Rattle.heat.specs.Text.{shareOf, splitText, textMax}
 use Rattle.heat.specs.Rows.{Row, rowsBelow, rowsIn}
-use Rattle.heat.specs.Answer.{saidBy, anyChanged, splitOf, shownBy, printed}
+use Rattle.heat.specs.Answer.{startTable, endTable, twoTables, saidBy, anyChanged, splitOf, heatSplit, shownBy, printed}
 use Rattle.heat.specs.Claim.{HeatInBoth, HasLine, Rising, sharesIn, heatAt, houseOf, HeatClaim}
 use Rattle.heat.proofs.ListedLaws as uses
 use Rattle.heat.proofs.RowLaws.{number-reads-back, signed-reads-back, text-reads-back, row-is-listed, listed-has-row, rows-rise, shares-in-rows}
 use Rattle.heat.proofs.SplitLaws.{answer-changed, answer-written}
-use Rattle.heat.proofs.LengthLaws.{text-is-short, of-the-texts, first-bytes-decide}
+use Rattle.heat.proofs.LengthLaws.{text-is-short, of-the-texts, room-enough, first-bytes-decide}
 use Rattle.heat.proofs.ExampleLaws as the-example
 
 -- ---- the lines
@@ -67,6 +68,29 @@ said-18 s e room h = by-18 (anyChanged s e) (eqb (total (gain s e)) 0) (ltb room
 changed-18 : (s e : Table) (room : ℕ) → anyChanged s e ≡ true → splitOf s e room .said ≡ refused 18 []
 unfolding saidBy
 changed-18 s e room h = ap (λ (t : Told). t .said) (answer-changed s e room h)
+
+-- ---- 3
+
+-- of what the chain says, only its last refusal is 3
+by-3 : (o a b c : Bool) (n : ℕ) (put : List ℕ)
+    → number (turnDown o 4 [] (turnDown a 18 [] (turnDown b 19 [] (turnDown c 3 (n ∷ []) (record { said = taken S.Nothing n; put = put })))) .said) ≡ 3 → (o ≡ false) × (c ≡ true)
+unfolding turnDown number
+by-3 true a b c n put h = absurd (omega arith)
+by-3 false true b c n put h = absurd (omega arith)
+by-3 false false true c n put h = absurd (omega arith)
+by-3 false false false true n put h = (refl, refl)
+by-3 false false false false n put h = absurd (omega arith)
+
+no-3 : (b : List ℕ) (n : ℕ) → ((i : ℕ) → getD b i 0 < 256) → heatSplit b textMax .said ≡ refused 3 (n ∷ []) → ⊥
+unfolding heatSplit splitOf number
+no-3 b n bytes h =
+    let s = startTable b in
+    let e = endTable b in
+    let k = length (splitText s e) in
+    let f = by-3 (not (twoTables b)) (anyChanged s e) (eqb (total (gain s e)) 0) (ltb textMax k) k (splitText s e) (ap number h) in
+    let short = ltb-true textMax k (f .1) in
+    let room = room-enough b bytes (not-false (twoTables b) (f .0)) in
+    omega arith
 
 -- ---- the example's tables
 
@@ -129,6 +153,7 @@ heat-claim = record {
   unchanged-no-18 = λ s e room h q. uses.none-changed s e h (said-18 s e room q);
   of-the-texts = λ s e room cs ce. of-the-texts s e cs ce room;
   text-is-short = λ s e cs ce. (text-is-short s e cs ce, refl);
+  never-3 = no-3;
   first-bytes-decide = first-bytes-decide;
   example =
       shown-text (houseOf 10 5) (houseOf 11 3) (house-canonical 10 5 (omega arith) (omega arith)) (house-canonical 11 3 (omega arith) (omega arith)) the-example.none-changed the-example.some-use

@@ -3,12 +3,13 @@
 -- Assumes nothing.
 use Prim.Native.Nat.{ℕ, suc, _+_, _≤_, _<_}
 use mathlib.Core.Path.{_≡_}
-use mathlib.Core.Bool.{true, false}
+use mathlib.Core.Bool.{true}
 use mathlib.Core.List.{List, [], _∷_, _++_, List·Memᴰ}
 use mathlib.Core.Logic.{_⊎_}
-use lib.IntN.{ℤ, pos, negsuc, _-ℤ_}
+use lib.IntN.{ℤ, pos, _-ℤ_}
 use lib.ListN.{length, take, set, replicate}
 use lib.Signed.{_≤ℤ_, _<ℤ_}
+use Rattle.octets.specs.Lists.{at}
 use Rattle.transaction.specs.Transaction.{meters}
 use Rattle.table.specs.declared.Entry.{Entry}
 use Rattle.table.specs.declared.Table.{Table}
@@ -111,6 +112,8 @@ pub record HeatClaim : Type 0 where
   -- the tables are read from their texts, and the text of a split has 6,161 bytes at the most
   pub of-the-texts : (s e : Table) (room : ℕ) → CanonicalTable s → CanonicalTable e → heatSplit (tableText s ++ tableText e) room ≡ splitOf s e room
   pub text-is-short : (s e : Table) → CanonicalTable s → CanonicalTable e → (length (splitText s e) ≤ textMax) × (textMax ≡ 6161)
+  -- so the program, whose room that is, never says 3, whatever bytes it reads
+  pub never-3 : (b : List ℕ) (n : ℕ) → ((i : ℕ) → at b i < 256) → heatSplit b textMax .said ≡ refused 3 (n ∷ []) → ⊥
   -- a longer input than two tables is refused by its first 12,289 bytes
   pub first-bytes-decide : (b : List ℕ) → printed (take 12289 b) ≡ printed b
   -- the request's example

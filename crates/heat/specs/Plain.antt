@@ -2,7 +2,7 @@
 -- "Lent outputs need room for just what they get" (CR 1): 3, with the length needed.
 -- Assumes nothing.
 use Prim.Native.Nat.{ℕ}
-use mathlib.Core.List.{List, [], _∷_}
+use mathlib.Core.List.{[], _∷_}
 use lib.Dec.{ltb}
 use Rattle.table.specs.declared.Table.{Table}
 use Rattle.table.specs.TableText.{tableLen, tableText}

@@ -1,7 +1,7 @@
 // A line of text, written from its end to its start, since a number's digits come lowest first.
 ghost use mathlib.Core.Path.{_≡_};
 ghost use mathlib.Core.List.{[], _∷_, _++_};
-ghost use Prim.Native.Nat.{_+_, _≤_, _<_};
+ghost use Prim.Native.Nat.{_+_, _≤_};
 ghost use lib.ListN.{length, drop};
 ghost use Rattle.heat.specs.Numerals.{numeral, signedNumeral};
 ghost use Rattle.heat.specs.Text.{lineMax};

@@ -1,7 +1,6 @@
 -- `heat::plain_table` meets its contract: where there is room, the table's text stands over the start of the buffer. Assumes nothing.
 use Rattle.heat.specs.Plain.{plainBy, plainTable}
-use Rattle.protocol.specs.Said.{Told, turnDown}
-use Rattle.protocol.proofs.SaidLaws.{told-so}
+use Rattle.protocol.specs.Said.{turnDown}
 use Rattle.table.specs.TableText.{tableLen, tableText}
 use Rattle.table.proofs.Arrays.{length-of-map}
 use Rattle.table.proofs.TextLaws.{length-table}

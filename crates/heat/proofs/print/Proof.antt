@@ -3,13 +3,10 @@ use Rattle.heat.proofs.PrintLaws.{printed-text, printed-refused, fits-p
 use Rattle.heat.specs.Numerals.{numeralWithin, numeral}
 use Rattle.heat.specs.Text.{textMax}
 use Rattle.heat.specs.Answer.{saidBy, heatSplit, refusedLine}
-use Rattle.heat.specs.declared.Split.the-variants as H
 use lib.ListN.{length, take, drop, replicate}
 use lib.Seq.{take-at}
-use mathlib.Core.List.{List}
 use borrow.Author.Needs.{needs}
-use mathlib.Core.Path.{_≡_, sym, ap, _∙_}
-use Prim.Native.Nat.{ℕ}
+use mathlib.Core.Path.{sym, ap, _∙_}
 use Rattle.heat.proofs.print.Statement.{statement}
 use Rattle.heat.proofs.print.Tie as tie
 

@@ -1,10 +1,9 @@
 -- `heat::numerals::signed_before` meets its contract: a negative number's size is one more than -1 less it, and a minus stands before it. Assumes nothing.
 use Rattle.heat.proofs.SignedLaws.{plain-cast, plain-numeral, turn-fits, turn-cast, size-fits, size-numeral}
-use Rattle.heat.specs.Numerals.{numeral, signedNumeral}
 use lib.ListN.{length, drop}
 use mathlib.Core.List.{List, _∷_, _++_}
 use native.Mathlib.Omega.{arith}
-use mathlib.Core.Path.{_≡_, ap, _∙_}
+use mathlib.Core.Path.{ap, _∙_}
 use Prim.Native.Nat.{ℕ}
 use Rattle.heat.proofs.numerals.signed_before.Statement.{statement}
 use Rattle.heat.proofs.numerals.signed_before.Tie as tie

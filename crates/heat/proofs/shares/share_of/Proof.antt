@@ -1,11 +1,9 @@
 -- `heat::shares::share_of` meets its contract: its tests are the definition's. Assumes nothing.
 use Rattle.octets.specs.Lists.{at}
-use lib.Dec.{eqb}
 use native.Mathlib.Nat.{div-le-self}
 use borrow.Author.Needs.{needs}
 use borrow.Author.Tests.{eq-eqb, ne-eqb, lt-ltb, le-ltb}
 use native.Mathlib.Omega.{arith}
-use mathlib.Core.Path.{sym}
 use Prim.Native.Nat.{_*_}
 use Rattle.heat.specs.Shares.{house}
 use Rattle.heat.proofs.shares.share_of.Statement.{statement}

@@ -9,7 +9,6 @@ use Rattle.table.specs.TableText.{tableFrom}
 use lib.ListN.{length, length-append}
 use borrow.Author.Needs.{needs}
 use native.Mathlib.Omega.{arith}
-use mathlib.Core.List.{List}
 use mathlib.Core.Path.{_≡_, refl, sym, ap, ap₂, _∙_}
 use Prim.Native.Nat.{ℕ, _+_, _-_, _*_, _≤_}
 use Rattle.heat.proofs.text.put_lines.Statement.{statement}

@@ -6,7 +6,7 @@ use lib.Signed.{mag}
 use mathlib.Core.Bool.{cond}
 use Prim.Native.Nat.{_^_, _<_}
 use borrow.Author.Needs.{needs}
-use mathlib.Core.Path.{_≡_, refl, sym, ap, _∙_}
+use mathlib.Core.Path.{refl, ap, _∙_}
 use Rattle.heat.proofs.uses.use_of.Statement.{statement}
 use Rattle.heat.proofs.uses.use_of.Tie as tie
 

@@ -3,7 +3,7 @@
 use Rattle.heat.proofs.UsesLaws.{one-more, bit-is, listed-at, changed-at, gain-at}
 use Rattle.heat.proofs.SumLaws.{sum-more, any-more}
 use Rattle.heat.specs.Sums.{sumBelow, anyBelow}
-use Rattle.heat.specs.Uses.{heatInBoth, heatInOne, listed, codeChanged, gain}
+use Rattle.heat.specs.Uses.{listed, codeChanged, gain}
 use Rattle.heat.specs.Shares.{total}
 use Rattle.heat.specs.Answer.{anyChanged}
 use Rattle.octets.proofs.Build.{tab-more, tab-whole}
@@ -13,10 +13,9 @@ use Rattle.table.specs.TableText.{tableFrom}
 use native.Mathlib.Nat.{not-suc-le-zero}
 use lib.ListN.{length, take, set, length-set}
 use mathlib.Core.Bool.{Bool, cond, _||_}
-use mathlib.Core.List.{List}
 use borrow.Author.Needs.{needs}
 use native.Mathlib.Omega.{arith}
-use mathlib.Core.Path.{_≡_, refl, sym, ap, ap₂, _∙_}
+use mathlib.Core.Path.{_≡_, refl, ap, ap₂, _∙_}
 use Prim.Native.Nat.{ℕ, _+_, _-_, _*_, _^_, _≤_, _<_}
 use Rattle.heat.proofs.uses.uses_in.Statement.{statement}
 use Rattle.heat.proofs.uses.uses_in.Tie as tie
