@@ -7,7 +7,7 @@
 ghost use mathlib.Core.Path.{_≡_};
 ghost use mathlib.Core.Bool.{true};
 ghost use Prim.Native.Nat.{_≤_};
-ghost use lib.ListN.{length, take};
+ghost use lib.ListN.{length, replicate};
 ghost use Rattle.octets.specs.Lists.{putOver};
 ghost use Rattle.table.specs.TableText.{isTable, tableFrom};
 ghost use Rattle.heat.specs.Text.{textMax};
@@ -103,7 +103,7 @@ pub fn heat_split(tables: &[u8], out: &mut [u8]) -> Split
     split_of(&tables[..TABLE_LEN], &tables[TABLE_LEN..], out)
 }
 
-// What the program prints: the first `len` of `bytes`.
+// What the program prints: the first `len` of `bytes`; behind them are zeros.
 pub struct Printed {
     pub bytes: [u8; TEXT_MAX],
     pub len: usize,
@@ -112,8 +112,8 @@ pub struct Printed {
 // A line that is printed.
 fn printed_line(s: &[u8]) -> Printed
     requires { ⌜ length (now s) ≤ textMax ⌝ }
-    ensures text { λ r. ⌜ take (r .len) (r .bytes) ≡ now (s .entry) ⌝ }
-    ensures len { λ r. ⌜ r .len ≤ length (r .bytes) ⌝ }
+    ensures bytes { λ r. ⌜ r .bytes ≡ putOver (now (s .entry)) (replicate textMax 0) ⌝ }
+    ensures len { λ r. ⌜ r .len ≡ length (now (s .entry)) ⌝ }
 {
     let mut bytes = [0u8; TEXT_MAX];
     octets::copy(s, &mut bytes);
@@ -125,8 +125,8 @@ fn printed_line(s: &[u8]) -> Printed
 
 // What the program prints of its input: the lines, or one that says with which number it is refused.
 pub fn print(input: &[u8]) -> Printed
-    ensures text { λ r. ⌜ take (r .len) (r .bytes) ≡ printed (now (input .entry)) ⌝ }
-    ensures len { λ r. ⌜ r .len ≤ length (r .bytes) ⌝ }
+    ensures bytes { λ r. ⌜ r .bytes ≡ putOver (printed (now (input .entry))) (replicate textMax 0) ⌝ }
+    ensures len { λ r. ⌜ r .len ≡ length (printed (now (input .entry))) ⌝ }
 {
     let mut bytes = [0u8; TEXT_MAX];
     let s = heat_split(input, &mut bytes);

@@ -1,12 +1,11 @@
 -- `heat::print` meets its contract: a text is printed as it was put, and a refusal as its line. Assumes nothing.
-use Rattle.heat.proofs.PrintLaws.{printed-text, printed-refused, fits-put}
+use Rattle.heat.proofs.PrintLaws.{printed-text, printed-refused, as-printed}
 use Rattle.heat.specs.Numerals.{numeralWithin, numeral}
 use Rattle.heat.specs.Text.{textMax}
-use Rattle.heat.specs.Answer.{saidBy, heatSplit, refusedLine}
-use lib.ListN.{length, take, drop, replicate}
-use lib.Seq.{take-at}
+use Rattle.heat.specs.Answer.{saidBy, refusedLine}
+use lib.ListN.{replicate}
 use borrow.Author.Needs.{needs}
-use mathlib.Core.Path.{sym, ap, _∙_}
+use mathlib.Core.Path.{ap}
 use Rattle.heat.proofs.print.Statement.{statement}
 use Rattle.heat.proofs.print.Tie as tie
 
@@ -17,28 +16,31 @@ returns c =
     let t = c .before .before .before .before .heat-split in
     let i = c .before .before .before .before .before .before .before .args .input .now in
     let p = printed-text i (ap saidBy (g .1)) (t .ensures .0) in
-    let put = heatSplit i textMax .put in
-    (ap (take (g .0 .0)) (t .ensures .1) ∙ take-at put (drop (length put) (replicate textMax 0)) (g .0 .0) (sym (p .1)) ∙ sym (p .0), rw (t .ensures .1) (fits-put put (replicate textMax 0) (p .1) (p .2)))
+    as-printed i (replicate textMax 0) (p .0) (t .ensures .1) (p .1)
 
 returns-2 : tie.Need-returns-2
 unfolding saidBy refusedLine numeral numeralWithin
 returns-2 c =
-    (c .printed-line .ensures .0 ∙ sym (printed-refused (c .before .before .before .before .before .before .before .before .args .input .now) (ap saidBy (c .before .before .enum-told .given .1)) (c .before .before .before .before .before .heat-split .ensures .0)), c .printed-line .ensures .1)
+    let i = c .before .before .before .before .before .before .before .before .args .input .now in
+    as-printed i (replicate textMax 0) (printed-refused i (ap saidBy (c .before .before .enum-told .given .1)) (c .before .before .before .before .before .heat-split .ensures .0)) (c .printed-line .ensures .0) (c .printed-line .ensures .1)
 
 returns-3 : tie.Need-returns-3
 unfolding saidBy refusedLine numeral numeralWithin
 returns-3 c =
-    (c .printed-line2 .ensures .0 ∙ sym (printed-refused (c .before .before .before .before .before .before .before .before .args .input .now) (ap saidBy (c .before .before .enum-told2 .given .1)) (c .before .before .before .before .before .heat-split .ensures .0)), c .printed-line2 .ensures .1)
+    let i = c .before .before .before .before .before .before .before .before .args .input .now in
+    as-printed i (replicate textMax 0) (printed-refused i (ap saidBy (c .before .before .enum-told2 .given .1)) (c .before .before .before .before .before .heat-split .ensures .0)) (c .printed-line2 .ensures .0) (c .printed-line2 .ensures .1)
 
 returns-4 : tie.Need-returns-4
 unfolding saidBy refusedLine numeral numeralWithin
 returns-4 c =
-    (c .printed-line3 .ensures .0 ∙ sym (printed-refused (c .before .before .before .before .before .before .before .before .args .input .now) (ap saidBy (c .before .before .enum-told3 .given .1)) (c .before .before .before .before .before .heat-split .ensures .0)), c .printed-line3 .ensures .1)
+    let i = c .before .before .before .before .before .before .before .before .args .input .now in
+    as-printed i (replicate textMax 0) (printed-refused i (ap saidBy (c .before .before .enum-told3 .given .1)) (c .before .before .before .before .before .heat-split .ensures .0)) (c .printed-line3 .ensures .0) (c .printed-line3 .ensures .1)
 
 returns-5 : tie.Need-returns-5
 unfolding saidBy refusedLine numeral numeralWithin
 returns-5 c =
-    (c .printed-line4 .ensures .0 ∙ sym (printed-refused (c .before .before .before .before .before .before .before .before .args .input .now) (ap saidBy (c .before .before .enum-told4 .given .1)) (c .before .before .before .before .before .heat-split .ensures .0)), c .printed-line4 .ensures .1)
+    let i = c .before .before .before .before .before .before .before .before .args .input .now in
+    as-printed i (replicate textMax 0) (printed-refused i (ap saidBy (c .before .before .enum-told4 .given .1)) (c .before .before .before .before .before .heat-split .ensures .0)) (c .printed-line4 .ensures .0) (c .printed-line4 .ensures .1)
 
 pub print-spec : {M : Type 1} → statement M
 print-spec =
