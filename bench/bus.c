@@ -8,16 +8,13 @@
 
 #define _POSIX_C_SOURCE 199309L
 
-#include "calls.h"
 #include "cipher.h"
-#include "common.h"
+#include "ways.h"
 
 #include <stdio.h>
 #include <string.h>
 
 enum { TAG = 16, WAYS = 3, ROUNDS = 25 };
-
-static const double batch_ns = 2e6;
 
 static struct cipher_key key;
 
@@ -118,32 +115,14 @@ static int add_bytes(const struct row *r)
 
 static int (*const ways[WAYS])(const struct row *) = { read_frame, seal_bytes, add_bytes };
 
-/* ---- the clock ---- */
-
-static double batch(int (*way)(const struct row *), const struct row *r, long times)
-{
-    int right = 1;
-    double start = now_ns();
-    for (long i = 0; i < times; i++)
-        right &= way(r);
-    double ns = (now_ns() - start) / (double)times;
-    check(right, "measured work");
-    return ns;
-}
-
 int main(void)
 {
     static const uint8_t bytes[PAVILUKO_KEY_LEN] = { 7 };
     check(cipher_prepare(bytes, sizeof bytes, key.schedule, key.multiples) == CIPHER_DONE, "preparing a key");
     make_frames();
     for (int round = 0; round < ROUNDS; round++)
-        for (int i = 0; i < ROWS * WAYS; i++) {
-            struct row *r = &rows[i / WAYS];
-            double *best = &r->best[i % WAYS];
-            double t = batch(ways[i % WAYS], r, (long)(batch_ns / batch(ways[i % WAYS], r, 200)) + 1);
-            if (*best == 0 || t < *best)
-                *best = t;
-        }
+        for (int i = 0; i < ROWS * WAYS; i++)
+            time_way(ways[i % WAYS], &rows[i / WAYS], 200, &rows[i / WAYS].best[i % WAYS]);
     printf("%-30s %5s %8s %8s %10s %10s %8s %10s %8s\n", "a frame off the bus", "bytes", "ns", "ns/B", "frames/s", "cipher ns",
            "ratio", "adding ns", "ratio");
     for (int i = 0; i < ROWS; i++) {

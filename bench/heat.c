@@ -11,9 +11,8 @@
 
 #define _POSIX_C_SOURCE 199309L
 
-#include "calls.h"
 #include "cipher.h"
-#include "common.h"
+#include "ways.h"
 
 #include <stdio.h>
 #include <string.h>
@@ -27,8 +26,6 @@ enum {
     WAYS = 3,
     ROUNDS = 25
 };
-
-static const double batch_ns = 2e6;
 
 static struct cipher_key key;
 static uint8_t out[PAVILUKO_HEAT_TEXT_MAX + 1]; /* snprintf ends with a 0 */
@@ -226,26 +223,6 @@ static void prepare_plain(const struct row *r)
     check(plain(r) && memcmp(out, table, PAVILUKO_TABLE_LEN) == 0, "the plain table");
 }
 
-/* ---- the clock ---- */
-
-static double batch(int (*way)(const struct row *), const struct row *r, long times)
-{
-    int right = 1;
-    double start = now_ns();
-    for (long i = 0; i < times; i++)
-        right &= way(r);
-    double ns = (now_ns() - start) / (double)times;
-    check(right, "measured work");
-    return ns;
-}
-
-static void time_way(int (*way)(const struct row *), const struct row *r, double *best)
-{
-    double t = batch(way, r, (long)(batch_ns / batch(way, r, 20)) + 1);
-    if (*best == 0 || t < *best)
-        *best = t;
-}
-
 int main(void)
 {
     static const uint8_t bytes[PAVILUKO_KEY_LEN] = { 7 };
@@ -256,9 +233,9 @@ int main(void)
     prepare_plain(&rows[2]);
     for (int round = 0; round < ROUNDS; round++) {
         for (int i = 0; i < ROWS * WAYS; i++)
-            time_way(ways[i % WAYS], &rows[i / WAYS], &rows[i / WAYS].best[i % WAYS]);
-        time_way(plain, &rows[2], &of_table);
-        time_way(copied, &rows[2], &of_copy);
+            time_way(ways[i % WAYS], &rows[i / WAYS], 20, &rows[i / WAYS].best[i % WAYS]);
+        time_way(plain, &rows[2], 20, &of_table);
+        time_way(copied, &rows[2], 20, &of_copy);
     }
     printf("%-30s %5s %8s %10s %10s %8s %10s %8s\n", "a yearly heat split", "bytes", "ns", "splits/s", "plain C ns", "ratio",
            "cipher ns", "ratio");
