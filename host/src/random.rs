@@ -1,15 +1,11 @@
-//! For unit tests: numbers from a fixed seed (xorshift).
+//! For unit tests: the numbers of the other tests, and more ways to draw them.
 
-pub struct Random(pub u64);
+#[path = "../tests/random/mod.rs"]
+mod drawn;
+
+pub use drawn::Random;
 
 impl Random {
-    pub fn below(&mut self, limit: usize) -> usize {
-        self.0 ^= self.0 << 13;
-        self.0 ^= self.0 >> 7;
-        self.0 ^= self.0 << 17;
-        ((self.0 >> 11) % limit as u64) as usize
-    }
-
     /// Once in so many times.
     pub fn rarely(&mut self, times: usize) -> bool {
         self.below(times) == 0
