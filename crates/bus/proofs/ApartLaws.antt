@@ -23,7 +23,8 @@ use Rattle.bus.specs.declared.Met.{Met}
 use Rattle.bus.specs.declared.Met.the-variants as M
 use Rattle.bus.specs.declared.Found.{Found}
 use Rattle.bus.specs.declared.Found.the-variants as F
-use Rattle.bus.specs.Digits.{digitsIn, decimal, allDigits, minus, readingBy, readingOf}
+use Rattle.transaction.specs.Signed.{minus}
+use Rattle.bus.specs.Digits.{digitsIn, decimal, allDigits, readingBy, readingOf}
 use Rattle.bus.specs.Records.{filler, wantedDif, dataLen, fieldLen, difOf, vifOf, unusableVif, recordLen, wanted, lookRecord, look, follow, firstWithin, firstReading, dataPlace}
 use Rattle.bus.specs.Claim.{digitsOf, packed, bcd, EightDigits, Written, digits, minusZero, Field, Unwanted, Before, nothing, fillerThen, recordThen}
 use Rattle.bus.proofs.MediumLaws.{wanted-size}

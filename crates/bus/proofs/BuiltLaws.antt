@@ -15,7 +15,8 @@ use Rattle.octets.specs.Lists.{at}
 use Rattle.octets.specs.Bytes.{padded}
 use Rattle.bus.specs.declared.DataLen.the-variants as D
 use Rattle.bus.specs.declared.Found.the-variants as F
-use Rattle.bus.specs.Digits.{digitsIn, decimal, allDigits, minus, readingBy, readingOf}
+use Rattle.transaction.specs.Signed.{minus}
+use Rattle.bus.specs.Digits.{digitsIn, decimal, allDigits, readingBy, readingOf}
 use Rattle.bus.specs.Records.{filler, wantedDif, dataLen, fieldLen, difOf, vifOf, unusableVif, recordLen, wanted, firstReading}
 use Rattle.bus.specs.Claim.{digitsOf, packed, bcd, EightDigits, Written, digits, minusZero, Field, Unwanted, Before, nothing, fillerThen, recordThen}
 use Rattle.bus.proofs.MediumLaws.{wanted-size}

@@ -18,7 +18,8 @@ use Rattle.octets.specs.Bytes.{padded}
 use Rattle.octets.proofs.BoolLaws.{and-assoc, and-true}
 use Rattle.octets.proofs.LittleLaws.{from-padded}
 use Rattle.bus.specs.declared.Found.the-variants as F
-use Rattle.bus.specs.Digits.{digitsIn, decimal, allDigits, minus, readingBy, readingOf}
+use Rattle.transaction.specs.Signed.{minus}
+use Rattle.bus.specs.Digits.{digitsIn, decimal, allDigits, readingBy, readingOf}
 
 -- ---- four bytes, and their eight digits
 

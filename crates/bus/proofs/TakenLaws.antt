@@ -33,7 +33,8 @@ use Rattle.bus.specs.declared.Found.{Found}
 use Rattle.bus.specs.declared.Found.the-variants as F
 use Rattle.bus.specs.Frame.{leastL, mediumPlace, bytesIn, unbroken}
 use Rattle.bus.specs.Medium.{codeOf, unitOf}
-use Rattle.bus.specs.Digits.{digitsIn, decimal, allDigits, minus, readingBy, readingOf}
+use Rattle.transaction.specs.Signed.{minus}
+use Rattle.bus.specs.Digits.{digitsIn, decimal, allDigits, readingBy, readingOf}
 use Rattle.bus.specs.Records.{look, follow, firstWithin, firstReading, dataPlace}
 use Rattle.bus.specs.Answer.{codeIn, readingIn, heard, fromBus}
 use Rattle.bus.specs.Claim.{OneWriteTo}

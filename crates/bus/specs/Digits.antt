@@ -1,14 +1,15 @@
 -- 02, CR 1: "Its 8 BCD digits come lowest byte first; a top digit of F makes the other seven negative." "a digit above 9 in the one taken" is
 -- unusable. Of a byte the low four bits are the lower digit (EN 13757-3).
 -- Assumes nothing.
-use Prim.Native.Nat.{ℕ, zero, suc, _+_, _*_, _/_, _%_}
+use Prim.Native.Nat.{ℕ, _+_, _*_, _/_, _%_}
 use mathlib.Core.Bool.{Bool, true, cond, _&&_}
 use mathlib.Core.List.{List, [], _∷_}
 use lib.Dec.{leb, eqb}
-use lib.IntN.{ℤ, pos, negsuc}
+use lib.IntN.{pos}
 use lib.ListN.{take}
 use Rattle.octets.specs.Lists.{at}
 use Rattle.octets.specs.Bytes.{padded}
+use Rattle.transaction.specs.Signed.{minus}
 use Rattle.bus.specs.declared.Found.{Found}
 use Rattle.bus.specs.declared.Found.the-variants as F
 
@@ -30,10 +31,6 @@ decimal (d ∷ ds) = d + 10 * decimal ds
 unfoldable pub allDigits : List ℕ → Bool
 allDigits [] = true
 allDigits (d ∷ ds) = leb d 9 && allDigits ds
-
-unfoldable pub minus : ℕ → ℤ
-minus zero = pos 0
-minus (suc n) = negsuc n
 
 -- of eight digits
 unfoldable pub readingBy : List ℕ → Found

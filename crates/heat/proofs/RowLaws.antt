@@ -17,7 +17,8 @@ use Rattle.table.specs.declared.Table.{Table}
 use Rattle.heat.specs.Uses.{listed, used}
 use Rattle.heat.specs.Numerals.{zeroByte, minusByte, numeral, signedNumeral}
 use Rattle.heat.specs.Text.{comma, newline, heading, line, shareOf, lineOf, linesBelow, splitText}
-use Rattle.heat.specs.Rows.{Row, rowsBelow, numberFrom, numberIn, negative, signedIn, upTo, past, rowIn, rowsWithin, rowsIn}
+use Rattle.transaction.specs.Signed.{minus}
+use Rattle.heat.specs.Rows.{Row, rowsBelow, numberFrom, numberIn, signedIn, upTo, past, rowIn, rowsWithin, rowsIn}
 use Rattle.heat.specs.Sums.{sumBelow}
 use Rattle.heat.specs.Claim.{Rising, sharesIn}
 use Rattle.heat.proofs.NumeralLaws.{numeral-digit, numeral-more}
@@ -86,9 +87,9 @@ no-minus none = refl
 no-minus (more e p) = rw e
 
 pub signed-reads-back : (z : ℤ) → signedIn (signedNumeral z) ≡ z
-unfolding signedNumeral signedIn negative
+unfolding signedNumeral signedIn minus
 signed-reads-back (pos n) = no-minus (plain-numeral minusByte n (omega arith)) ∙ ap pos (number-reads-back n)
-signed-reads-back (negsuc n) = ap negative (number-reads-back (suc n))
+signed-reads-back (negsuc n) = ap minus (number-reads-back (suc n))
 
 -- ---- up to a byte, and past it
 

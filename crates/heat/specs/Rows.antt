@@ -5,8 +5,9 @@ use Prim.Native.Nat.{ℕ, zero, suc, _+_, _-_, _*_}
 use mathlib.Core.Bool.{cond}
 use mathlib.Core.List.{List, [], _∷_, _++_}
 use lib.Dec.{eqb}
-use lib.IntN.{ℤ, pos, negsuc}
+use lib.IntN.{ℤ, pos}
 use lib.ListN.{length}
+use Rattle.transaction.specs.Signed.{minus}
 use Rattle.table.specs.declared.Table.{Table}
 use Rattle.heat.specs.Uses.{listed, used}
 use Rattle.heat.specs.Numerals.{zeroByte, minusByte}
@@ -34,13 +35,9 @@ numberFrom a (x ∷ t) = numberFrom (10 * a + (x - zeroByte)) t
 unfoldable pub numberIn : List ℕ → ℕ
 numberIn t = numberFrom 0 t
 
-unfoldable pub negative : ℕ → ℤ
-negative zero = pos 0
-negative (suc n) = negsuc n
-
 unfoldable pub signedIn : List ℕ → ℤ
 signedIn [] = pos 0
-signedIn (x ∷ t) = cond (eqb x minusByte) (negative (numberIn t)) (pos (numberIn (x ∷ t)))
+signedIn (x ∷ t) = cond (eqb x minusByte) (minus (numberIn t)) (pos (numberIn (x ∷ t)))
 
 -- ---- lines, read back
 
