@@ -4,6 +4,8 @@
 // SubBytes and MixColumns; the table is tested against that rule once, as the S-box is. It holds each column twice, so
 // that the column turned by a byte or more is read off and not computed. The tables are taken once a call: a constant
 // array costs a copy wherever it is named. Lookups by secret bytes are not constant-time.
+#![tactic(auto)]
+
 ghost use Rattle.std.specs.Prelude.{◌≡◌, [], ◌∷◌, ◌<◌};
 ghost use Rattle.octets.specs.Blocks.{num};
 ghost use Rattle.octets.specs.Bytes.{bytes_of};
@@ -16,7 +18,7 @@ ghost use Rattle.aes.specs.Counter.{inc32, gctr};
 use octets::Block;
 
 // A state: its four columns.
-#[derive(Drop)]
+#[derive(Clone, Copy)]
 pub struct Columns {
     pub a: u32,
     pub b: u32,

@@ -3,6 +3,8 @@
 // A key schedule is 44 words; the word of the bytes a, b, c, d is the number that they write, a first. The S-box is a
 // constant table of 256 bytes: the rule of section 5.1.1 is tested once over the whole table, and a law carries the
 // test to each entry. Lookups by secret bytes are not constant-time.
+#![tactic(auto)]
+
 ghost use Rattle.std.specs.Prelude.{◌≡◌, ◌<◌, ◌≤◌, take};
 ghost use Rattle.aes_key.specs.Sbox.{sbox, IsSbox};
 ghost use Rattle.aes_key.specs.Words.{word};

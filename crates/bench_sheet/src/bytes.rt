@@ -8,8 +8,7 @@ use super::words::{
     TEXT_LENGTH, WRITES,
 };
 use super::{frame, script};
-
-#[derive(Drop)]
+#[derive(Clone, Copy)]
 pub struct Lengths {
     pub text: usize,
     pub file: usize,

@@ -2,6 +2,8 @@
 // it can return a case just inside and one just outside, and the marked cases of the bench sheet (M). The cases are a script,
 // the file `stdin` of this crate, which says at its head what each word of it does; here is what carries it out. A line a case
 // is written, and one for a word that is none of the script's.
+#![tactic(auto)]
+
 mod bytes;
 mod call;
 mod frame;
@@ -22,7 +24,7 @@ use words::{AGAIN, KEEP, RECORD};
 const COMMANDS: usize = 4096;
 
 // What a command finds: vault numbers, a collector, one that was put aside, and the lengths of what calls are handed.
-#[derive(Drop)]
+#[derive(Clone, Copy)]
 struct Bench {
     numbers: Vault,
     collector: Collector,

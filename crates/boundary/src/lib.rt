@@ -3,6 +3,8 @@
 // A C function can neither take nor give an enum. So the phase and the store that is due stand as numbers, and what a call
 // answers stands as its number, its store and its value. `freeze` writes a state down so, `thaw` reads it; a state whose
 // numbers are none that `freeze` writes is not known. The parts of the state that hold no enum cross as they are.
+#![tactic(auto)]
+
 ghost use Rattle.std.specs.Prelude.{◌≡◌, cond, [], ◌∷◌};
 ghost use Rattle.octets.specs.Lists.{at};
 ghost use Rattle.protocol.specs.Said.{refused, number_of, values_of, shown, shown_as};
@@ -27,7 +29,7 @@ pub const EDITION: u64 = 5;
 // The store that is due: its kind, and the position, the lane and the checkpoint (0 the first, 1 the second) of a kind that
 // has them. What a kind does not have is 0.
 #[repr(C)]
-#[derive(Drop)]
+#[derive(Clone, Copy)]
 pub struct DueNumbers {
     pub position: u64,
     pub kind: u8,
@@ -37,7 +39,7 @@ pub struct DueNumbers {
 
 // The state. Phase 1 is cold, 2 recovering, 3 in service; so zeros are no state.
 #[repr(C)]
-#[derive(Drop)]
+#[derive(Clone, Copy)]
 pub struct FlatState {
     pub vault: Vault,
     pub due: DueNumbers,
@@ -52,7 +54,7 @@ pub struct FlatState {
 // What a call says: number 0 with the store that it names and the bytes that it put out, or 01's number with the value
 // returned with it.
 #[repr(C)]
-#[derive(Drop)]
+#[derive(Clone, Copy)]
 pub struct Said {
     pub value: u64,
     pub len: u64,
@@ -63,7 +65,7 @@ pub struct Said {
 
 // The state handed back, and what the call says.
 #[repr(C)]
-#[derive(Drop)]
+#[derive(Clone, Copy)]
 pub struct Reply {
     pub state: FlatState,
     pub said: Said,

@@ -3,6 +3,8 @@
 // A reply is a long frame around L bytes: C, address, CI, a fixed header of 12 bytes, and records. The frame is checked
 // first, whole; then the records are searched for the one that is taken, a step a record, and never behind the L bytes.
 // Nothing public has a `requires`.
+#![tactic(auto)]
+
 ghost use Rattle.std.specs.Prelude.{◌≡◌, ◌&&◌, ◌/◌, ◌%◌, leb, length};
 ghost use Rattle.octets.specs.Lists.{put_over};
 ghost use Rattle.bus.specs.Frame.{sum, unbroken};
@@ -50,14 +52,14 @@ const LITRES: u8 = 0x13;
 const KILOWATT_HOURS: u8 = 0x06;
 
 // How many bytes of data a DIF announces.
-#[derive(Drop)]
+#[derive(Clone, Copy)]
 enum DataLen {
     Bytes(usize),
     Unusable,
 }
 
 // What the search meets: so many bytes to pass, the record that is taken, or its end.
-#[derive(Drop)]
+#[derive(Clone, Copy)]
 enum Met {
     Pass(usize),
     Take,
@@ -65,14 +67,14 @@ enum Met {
 }
 
 // What the search finds.
-#[derive(Drop)]
+#[derive(Clone, Copy)]
 enum Found {
     Reading(i32),
     Nothing,
 }
 
 // What `from_bus` answers.
-#[derive(Drop)]
+#[derive(Clone, Copy)]
 pub enum Heard {
     // The transaction stands at the start of the output.
     Taken,

@@ -1,5 +1,7 @@
 // Checkpoint (01, Operations): stores N + 1, the file of the whole table with version S + 1 and the raised N as seal
 // number, then S + 1. Points set before it began are then covered. Three calls, each naming one store.
+#![tactic(auto)]
+
 ghost use Rattle.std.specs.Prelude.{◌≡◌, [], length};
 ghost use Rattle.octets.specs.Lists.{put_over};
 ghost use Rattle.protocol.specs.Said.{shown_as};

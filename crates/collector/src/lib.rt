@@ -1,6 +1,8 @@
 // The collector (01, Operations): its state, and the operations as methods by value. A call hands the collector back with
 // its outcome: the one store that it names, or why it was turned down. The host carries out a named store before the
 // next call, and hands that call the collector last returned.
+#![tactic(auto)]
+
 ghost use Rattle.std.specs.Prelude.{◌≡◌, [], length, get_or};
 ghost use Rattle.octets.specs.Lists.{put_over};
 ghost use Rattle.table.specs.Table.{no_entry};
@@ -18,13 +20,13 @@ use protocol::{Answer, Due, Outcome, Phase, State, Vault};
 use table::{Entry, Table};
 
 // A collector. Its state is private: others make one by Load, or of a state that they have, and ask it by its methods.
-#[derive(Drop)]
+#[derive(Clone, Copy)]
 pub struct Collector {
     state: State,
 }
 
 // What a call hands back.
-#[derive(Drop)]
+#[derive(Clone, Copy)]
 pub struct Handed {
     pub collector: Collector,
     pub outcome: Outcome,

@@ -8,6 +8,8 @@
 // `open` are the same on the struct.
 //
 // Decryption compares the whole tag before it writes a byte.
+#![tactic(auto)]
+
 ghost use Rattle.std.specs.Prelude.{◌≡◌, ◌+◌, ◌≤◌, length, take, drop};
 ghost use Rattle.octets.specs.Lists.{put_over};
 ghost use Rattle.octets.specs.Blocks.{num};
@@ -21,14 +23,14 @@ ghost use Rattle.gcm.specs.Answers.{sealing, sealed_in, opening, opened_in};
 use octets::Block;
 
 // A prepared key.
-#[derive(Drop)]
+#[derive(Clone, Copy)]
 pub struct Key {
     pub schedule: [u32; 44],
     pub multiples: [u64; 1024],
 }
 
 // What sealing answers.
-#[derive(Drop)]
+#[derive(Clone, Copy)]
 pub enum Sealing {
     // The text and behind it the tag stand in the buffer.
     Done,
@@ -39,7 +41,7 @@ pub enum Sealing {
 }
 
 // What opening answers.
-#[derive(Drop)]
+#[derive(Clone, Copy)]
 pub enum Opening {
     // The text has so many bytes.
     Text(usize),

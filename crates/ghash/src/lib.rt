@@ -5,6 +5,8 @@
 // whatever table they are lent, so nothing public has a `requires`; by H's table it is the standard's (`product_is`, in
 // proofs/TableLaws.antt).
 // The entries are looked up by bits of what is hashed: no constant time is claimed.
+#![tactic(auto)]
+
 ghost use Rattle.std.specs.Prelude.{◌≡◌, ℕ, ◌+◌, ◌≤◌, length};
 ghost use Rattle.std.proofs.Math.Seq.{paste};
 ghost use Rattle.octets.specs.Blocks.{num};

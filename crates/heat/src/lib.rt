@@ -4,6 +4,8 @@
 // The two tables are their texts, end to end, and are read where they lie, an entry at a time: no table is copied. What each
 // meter used comes first (uses), then the shares (shares), then the lines (text, numerals). Nothing public has a `requires`:
 // what is not two tables is refused.
+#![tactic(auto)]
+
 ghost use Rattle.std.specs.Prelude.{◌≡◌, true, ◌≤◌, length, replicate};
 ghost use Rattle.octets.specs.Lists.{put_over};
 ghost use Rattle.table.specs.TableText.{is_table, table_from};
@@ -26,7 +28,7 @@ const LINE_MAX: usize = 24;
 pub const TABLES_LEN: usize = TABLE_LEN + TABLE_LEN;
 
 // What `heat_split` answers.
-#[derive(Drop)]
+#[derive(Clone, Copy)]
 pub enum Split {
     // So many bytes of text stand at the start of the output.
     Written(usize),
@@ -41,7 +43,7 @@ pub enum Split {
 }
 
 // What `plain_table` answers.
-#[derive(Drop)]
+#[derive(Clone, Copy)]
 pub enum Plain {
     // The table's text stands at the start of the output.
     Put,
@@ -103,7 +105,7 @@ pub fn heat_split(tables: &[u8], out: &mut [u8]) -> Split
 }
 
 // What the program prints: the first `len` of `bytes`; behind them are zeros.
-#[derive(Drop)]
+#[derive(Clone, Copy)]
 pub struct Printed {
     pub bytes: [u8; TEXT_MAX],
     pub len: usize,

@@ -11,7 +11,7 @@ const ZERO: u8 = b'0';
 const MINUS: u8 = b'-';
 
 // What is written so far stands from `from` to the end of `bytes`.
-#[derive(Drop)]
+#[derive(Clone, Copy)]
 pub struct Line {
     pub bytes: [u8; LINE_MAX],
     pub from: usize,

@@ -11,7 +11,7 @@ use transaction::METERS;
 const HOUSE: u64 = 1_000_000;
 
 // The remainders, and what the floors add up to.
-#[derive(Drop)]
+#[derive(Clone, Copy)]
 struct Divided {
     remainders: [u64; METERS],
     given: u64,

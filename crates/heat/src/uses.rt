@@ -15,7 +15,7 @@ use transaction::METERS;
 const HEAT: u8 = 3;
 
 // What a meter's two entries say.
-#[derive(Drop)]
+#[derive(Clone, Copy)]
 pub struct Use {
     pub listed: bool,
     pub changed: bool,
@@ -70,7 +70,7 @@ pub(crate) fn use_of(a: Entry, b: Entry) -> Use
 
 // What two tables say: whether a code changed from heat or to heat, the total, which meters are listed (1, else 0), and what
 // each adds to the total.
-#[derive(Drop)]
+#[derive(Clone, Copy)]
 pub struct Uses {
     pub changed: bool,
     pub total: u64,

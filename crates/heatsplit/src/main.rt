@@ -4,6 +4,8 @@
 //
 // Of a longer input one byte more than two tables is kept, which is enough to refuse it, and the rest is read and dropped, so
 // that whoever writes it can write all of it.
+#![tactic(auto)]
+
 use heat::TABLES_LEN;
 use libc::{STDIN_FILENO, STDOUT_FILENO};
 

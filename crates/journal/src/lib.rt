@@ -3,6 +3,8 @@
 //
 // All of it goes in and out by value. Nothing here has a `requires`: a full list stays as it is, and a text longer than
 // any transaction is not held.
+#![tactic(auto)]
+
 ghost use Rattle.std.specs.Prelude.{◌≡◌};
 ghost use Rattle.protocol.specs.States.{no_journal, no_point, no_points, no_held};
 ghost use Rattle.protocol.specs.Accept.{too_low};

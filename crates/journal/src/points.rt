@@ -11,7 +11,7 @@ ghost use Rattle.journal.specs.Beyond.{points_if, shown_point};
 use protocol::{POINTS, Point, Points};
 
 // A point that was looked for: the empty one where it is not kept.
-#[derive(Drop)]
+#[derive(Clone, Copy)]
 pub struct PointFound {
     pub found: bool,
     pub point: Point,

@@ -1,4 +1,6 @@
 // Load (01, Operations): 27 numbers and a 16-byte key make a cold collector.
+#![tactic(auto)]
+
 ghost use Rattle.std.specs.Prelude.{◌≡◌, [], replicate};
 ghost use Rattle.octets.specs.Lists.{over};
 ghost use Rattle.protocol.specs.Said.{shown_as};

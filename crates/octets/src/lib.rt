@@ -2,6 +2,8 @@
 //
 // Nothing here has a `requires`. Where a slice is too short, what is read past its end is 0 and what would be
 // written past its end is left out; the contracts say so.
+#![tactic(auto)]
+
 ghost use Rattle.std.specs.Prelude.{◌≡◌, [], ◌∷◌, ◌≤◌, length};
 ghost use Rattle.std.specs.Int.Bits.{bit_xor};
 ghost use Rattle.octets.specs.Lists.{at, over};
@@ -11,7 +13,7 @@ ghost use Rattle.octets.specs.Blocks.{num};
 pub mod little;
 
 // A block of 128 bits: hi holds the leftmost 64.
-#[derive(Drop)]
+#[derive(Clone, Copy)]
 pub struct Block {
     pub hi: u64,
     pub lo: u64,

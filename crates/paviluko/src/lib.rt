@@ -4,6 +4,8 @@
 // The host keeps the state and hands it over by value; the reply has the next state, by value too. Nothing is kept between
 // calls. Each promise is that of 01's definition, carried over the boundary by `thaw` and `reply_to`; a state whose numbers
 // are not known is refused with 1 and handed back as it came.
+#![tactic(auto)]
+
 ghost use Rattle.std.specs.Prelude.{◌≡◌, length, get_or};
 ghost use Rattle.octets.specs.Lists.{put_over};
 ghost use Rattle.transaction.specs.Edition.{present};

@@ -1,4 +1,6 @@
 // Point (01, Operations): a position above the newest point, with every accepted record below it visible.
+#![tactic(auto)]
+
 ghost use Rattle.std.specs.Prelude.{◌≡◌, []};
 ghost use Rattle.protocol.specs.Said.{shown_as};
 ghost use Rattle.protocol.specs.Point.{point};

@@ -2,6 +2,8 @@
 //
 // This crate has the declared types and the definitions of the eight operations over them (specs/). It has no code: the
 // crates of the operations have it, and their contracts cite these definitions.
+#![tactic(auto)]
+
 use table::{LANES, Table};
 use transaction::MAX_TEXT;
 
@@ -15,7 +17,7 @@ pub const POINTS: usize = 8;
 // The vault's 27 numbers. For each lane: w, the numbers handed out; v, the numbers visible; r, the numbers truncated.
 // The epoch e, the checkpoint version s, and the checkpoint seal number n.
 #[repr(C)]
-#[derive(Drop)]
+#[derive(Clone, Copy)]
 pub struct Vault {
     pub w: Lanes,
     pub v: Lanes,
@@ -26,7 +28,7 @@ pub struct Vault {
 }
 
 // A collector is cold after loading, recovering, or in service.
-#[derive(Drop)]
+#[derive(Clone, Copy)]
 pub enum Phase {
     Cold,
     Recovering,
@@ -34,7 +36,7 @@ pub enum Phase {
 }
 
 // The single store that is due, by the operation that it belongs to.
-#[derive(Drop)]
+#[derive(Clone, Copy)]
 pub enum Due {
     Nothing,
     // Accept: the record of the transaction held.
@@ -46,21 +48,21 @@ pub enum Due {
 }
 
 // Behind N: the file, then S.
-#[derive(Drop)]
+#[derive(Clone, Copy)]
 pub enum CheckpointStep {
     File,
     Version,
 }
 
 // R of a lane, then the deletion.
-#[derive(Drop)]
+#[derive(Clone, Copy)]
 pub enum TruncateStep {
     R { lane: u8 },
     Delete,
 }
 
 // Behind the first N: the file of the first or second checkpoint, a vault number, emptying the log.
-#[derive(Drop)]
+#[derive(Clone, Copy)]
 pub enum RecoverStep {
     File { second: bool },
     Number { number: RecoverNumber },
@@ -68,7 +70,7 @@ pub enum RecoverStep {
 }
 
 // S of the first or second checkpoint, the second N, R of a lane, E, V of a lane.
-#[derive(Drop)]
+#[derive(Clone, Copy)]
 pub enum RecoverNumber {
     S { second: bool },
     N,
@@ -79,7 +81,7 @@ pub enum RecoverNumber {
 
 // The accepted records at or above the newest point, in the order of their positions, and the last position used.
 #[repr(C)]
-#[derive(Drop)]
+#[derive(Clone, Copy)]
 pub struct Journal {
     pub positions: [u64; LISTED],
     pub lanes: [u8; LISTED],
@@ -90,7 +92,7 @@ pub struct Journal {
 
 // A point: per lane how many numbers lie below it, and whether a checkpoint covers it.
 #[repr(C)]
-#[derive(Drop)]
+#[derive(Clone, Copy)]
 pub struct Point {
     pub position: u64,
     pub counts: Lanes,
@@ -99,7 +101,7 @@ pub struct Point {
 
 // The points kept, and the newest one set since service began.
 #[repr(C)]
-#[derive(Drop)]
+#[derive(Clone, Copy)]
 pub struct Points {
     pub items: [Point; POINTS],
     pub count: usize,
@@ -109,15 +111,14 @@ pub struct Points {
 
 // The transaction that Accept holds for Seal.
 #[repr(C)]
-#[derive(Drop)]
+#[derive(Clone, Copy)]
 pub struct Held {
     pub text: [u8; MAX_TEXT],
     pub len: usize,
     pub lane: u8,
     pub position: u64,
 }
-
-#[derive(Drop)]
+#[derive(Clone, Copy)]
 pub struct State {
     pub vault: Vault,
     pub phase: Phase,
@@ -130,7 +131,7 @@ pub struct State {
 }
 
 // The store that a call names.
-#[derive(Drop)]
+#[derive(Clone, Copy)]
 pub enum Store {
     Nothing,
     W { lane: u8, value: u64 },
@@ -147,7 +148,7 @@ pub enum Store {
 
 // The step of a vault number: whether it can be set, the vault's numbers behind it, the store that is due next, and the
 // store named. One that cannot be set leaves the numbers as they are.
-#[derive(Drop)]
+#[derive(Clone, Copy)]
 pub struct Step {
     pub goes: bool,
     pub vault: Vault,
@@ -156,7 +157,7 @@ pub struct Step {
 }
 
 // Why a call is turned down.
-#[derive(Drop)]
+#[derive(Clone, Copy)]
 pub enum Refusal {
     Condition,
     Numbers,
@@ -176,14 +177,14 @@ pub enum Refusal {
 }
 
 // What a call answers: the store that it names and how many bytes it put out, or why it was turned down.
-#[derive(Drop)]
+#[derive(Clone, Copy)]
 pub enum Outcome {
     Taken { store: Store, len: usize },
     Refused { why: Refusal },
 }
 
 // A call hands the state back with its outcome.
-#[derive(Drop)]
+#[derive(Clone, Copy)]
 pub struct Answer {
     pub state: State,
     pub outcome: Outcome,

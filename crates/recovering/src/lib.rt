@@ -1,5 +1,7 @@
 // Recover (01, Operations): a cold collector is given a checkpoint and a log; where they are accepted, the stores of the
 // recovery follow, one a call, and behind the last it is in service.
+#![tactic(auto)]
+
 ghost use Rattle.std.specs.Prelude.{◌≡◌, length};
 ghost use Rattle.octets.specs.Lists.{put_over};
 ghost use Rattle.protocol.specs.Said.{shown_as};

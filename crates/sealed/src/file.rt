@@ -16,21 +16,21 @@ pub const FILE_KIND: u8 = 2;
 pub const FILE_LEN: usize = TABLE_LEN + FRAME_LEN;
 
 // What a file's head says, where the file opens.
-#[derive(Drop)]
+#[derive(Clone, Copy)]
 pub enum FileHead {
     File { version: u64, seal: u64 },
     Closed,
 }
 
 // A file that was read, and its table; the empty one where it does not open.
-#[derive(Drop)]
+#[derive(Clone, Copy)]
 pub struct FileRead {
     pub head: FileHead,
     pub table: Table,
 }
 
 // What sealing a file answers.
-#[derive(Drop)]
+#[derive(Clone, Copy)]
 pub enum FilePut {
     // The file has so many bytes.
     Done(usize),

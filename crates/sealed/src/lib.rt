@@ -4,6 +4,8 @@
 // holds the whole length. The key is lent as its two prepared parts (see gcm), whatever they are. Sealing writes the text
 // to its place in the lent buffer, from byte 20 on, and encrypts it there (02, CR 3): no other buffer holds it. Opening
 // hands the numbers over as an enum, and the text or the table beside it.
+#![tactic(auto)]
+
 pub mod file;
 mod frame;
 pub mod record;

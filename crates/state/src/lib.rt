@@ -2,6 +2,8 @@
 //
 // The tests take the parts of a state that they look at and not the whole of it: a state is some 8 KB, and passing it is
 // copying it.
+#![tactic(auto)]
+
 ghost use Rattle.std.specs.Prelude.{◌≡◌};
 ghost use Rattle.protocol.specs.States.{serving, is_nothing, with_vault, valid_by, ready_by};
 ghost use Rattle.protocol.specs.Said.{refused_with, taken_with};

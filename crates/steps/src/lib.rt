@@ -1,5 +1,7 @@
 // One store of an operation that takes several (01, Operations): a vault number, or a checkpoint's file. Each is told
 // which store is due behind it. Checkpoint, Truncate and Recover are made of these.
+#![tactic(auto)]
+
 ghost use Rattle.std.specs.Prelude.{◌≡◌, length};
 ghost use Rattle.octets.specs.Lists.{put_over};
 ghost use Rattle.sealed.specs.Aead.{aes_gcm};

@@ -1,6 +1,8 @@
 // The cipher as a C program calls it, for the tests against other implementations and for the bench.
 //
 // A key is prepared into two arrays that the caller keeps, and is then lent to each call.
+#![tactic(auto)]
+
 ghost use Rattle.std.specs.Prelude.{◌≡◌, cond, eqb, length};
 ghost use Rattle.aes.specs.Cipher.{cipher};
 ghost use Rattle.ghash.specs.Multiples.{product_by};

@@ -1,6 +1,8 @@
 // Records, checkpoint files and the table as a C program calls them, for the tests against a model and for the bench.
 //
 // A key is prepared into two arrays that the caller keeps, and is then lent to each call. A table crosses as its text.
+#![tactic(auto)]
+
 ghost use Rattle.std.specs.Prelude.{◌≡◌, cond, eqb, length};
 ghost use Rattle.gcm.specs.Key.{prepared};
 ghost use Rattle.octets.specs.Lists.{over, put_over};
@@ -17,7 +19,7 @@ use sealed::{file, record};
 
 // What a record's head says: code 0 where the record opens, and else 9 with zeros.
 #[repr(C)]
-#[derive(Drop)]
+#[derive(Clone, Copy)]
 pub struct RecordReply {
     pub code: u64,
     pub lane: u64,
@@ -28,7 +30,7 @@ pub struct RecordReply {
 
 // What a file's head says: code 0 where the file opens, and else 9 with zeros.
 #[repr(C)]
-#[derive(Drop)]
+#[derive(Clone, Copy)]
 pub struct FileReply {
     pub code: u64,
     pub version: u64,

@@ -1,5 +1,7 @@
 // Truncate (01, Operations): R of lanes 0 to 7 from the counts of a covered point, then the deletion of the records
 // below it. Nine calls, each naming one store.
+#![tactic(auto)]
+
 ghost use Rattle.std.specs.Prelude.{◌≡◌, []};
 ghost use Rattle.octets.specs.Lists.{at};
 ghost use Rattle.protocol.specs.Said.{shown_as};

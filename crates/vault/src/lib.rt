@@ -2,6 +2,8 @@
 //
 // The vault goes in and out by value. Nothing here has a `requires`: a number of a lane above 7 is read as 0, and
 // setting one changes nothing.
+#![tactic(auto)]
+
 ghost use Rattle.std.specs.Prelude.{◌≡◌, set};
 ghost use Rattle.octets.specs.Lists.{at};
 ghost use Rattle.octets.specs.Every.{all_below};

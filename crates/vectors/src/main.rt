@@ -4,6 +4,8 @@
 // For each file one line is written, with the number of vectors that agree in every byte and the number of vectors. A
 // vector that is not well formed does not agree. One that NIST has fail agrees where opening fails and leaves the lent
 // buffer as it was.
+#![tactic(auto)]
+
 mod text;
 
 ghost use Rattle.std.specs.Prelude.{◌≤◌};
@@ -13,7 +15,7 @@ use gcm::{Opening, Sealing};
 use libc::STDOUT_FILENO;
 
 // The three sets of vectors.
-#[derive(Drop)]
+#[derive(Clone, Copy)]
 enum Set {
     Aes,
     Encrypt,
@@ -21,7 +23,7 @@ enum Set {
 }
 
 // How many vectors there are, how many agree, and how many of those are refused.
-#[derive(Drop)]
+#[derive(Clone, Copy)]
 struct Tally {
     lines: u64,
     agreed: u64,

@@ -6,20 +6,19 @@ ghost use Rattle.io.specs.Counts.{IsPrefixLen};
 ghost use Rattle.vectors.specs.Hex.{digit_value, bytes_to};
 
 // The bytes that a field writes: how many there are, and whether the field is well formed.
-#[derive(Drop)]
+#[derive(Clone, Copy)]
 pub struct Bytes {
     pub len: usize,
     pub good: bool,
 }
 
 // A field of 16 bytes, as a key, a block or a tag, and of 12, as an IV.
-#[derive(Drop)]
+#[derive(Clone, Copy)]
 pub struct Sixteen {
     pub bytes: [u8; 16],
     pub good: bool,
 }
-
-#[derive(Drop)]
+#[derive(Clone, Copy)]
 pub struct Twelve {
     pub bytes: [u8; 12],
     pub good: bool,

@@ -1,0 +1,12 @@
+-- `boundary::said_of` meets its contract: a store is named, or a refusal has its number and value. Assumes nothing.
+use Rattle.protocol.specs.Said.{shown}
+use Rattle.boundary.specs.Replies.{said_of}
+use Rattle.boundary.proofs.said_of.Goals as goal
+
+pub returns-in-Taken : goal.returns-in-Taken
+unfolding said_of shown
+returns-in-Taken c = rw (c.named.ensures, c.o-1.given.1)
+
+pub returns-in-Refused : goal.returns-in-Refused
+unfolding said_of shown
+returns-in-Refused c = rw (c.refused.ensures, c.number_of-number.ensures, c.value_of-value.ensures, c.o-in-Refused-1.given.1)

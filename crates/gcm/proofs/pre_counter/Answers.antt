@@ -1,0 +1,13 @@
+-- `gcm::pre_counter` meets its contract: the IV's twelve bytes, and a counter of 1. Assumes nothing.
+use Rattle.gcm.proofs.SealLaws.{pre_words}
+use lib.ListN.{length}
+use borrow.Author.Rules.{rules}
+use mathlib.Core.Path.{◌≡◌}
+use Prim.Native.Nat.{◌-◌}
+use Rattle.gcm.proofs.pre_counter.Goals as goal
+
+pub returns : goal.returns
+returns c =
+    let iv = c.args.t1 in
+    let long : length iv ≡ 12 = search rules in
+    pre_words iv c.word_of.result c.word_of-2.result long c.word_of.ensures c.word_of-2.ensures

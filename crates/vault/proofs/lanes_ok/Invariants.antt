@@ -1,0 +1,11 @@
+-- `vault::lanes_ok` meets its contract. The invariant: the lanes so far keep the rule or not. The measure is the lanes left. Assumes nothing.
+use Rattle.octets.specs.Every.{all_below}
+use mathlib.Core.Path.{◌≡◌}
+use Prim.Native.Nat.{◌-◌, ◌≤◌}
+use Rattle.vault.proofs.lanes_ok.Given as goal
+
+abbrev pub invariant-loop-lane : goal.invariant-loop-lane
+invariant-loop-lane l = (l.lane ≤ 8) × (l.good ≡ all_below (keeps l.x) l.lane)
+
+abbrev pub decreases-loop-lane : goal.decreases-loop-lane
+decreases-loop-lane l = 8 - l.lane
