@@ -8,7 +8,7 @@ use Rattle.aes_key.proofs.next_word.Goals as goal
 pub returns-then-i-eq0 : goal.returns-then-i-eq0
 returns-then-i-eq0 c =
     let a = c.args in
-    turned_word a.w.now a.i _ _ _ _ c.if-i-eq0.true (entry a.rc.now c.requires.1.0 (a.i / 4 - 1) (omega arith)) c.word_of-constant.ensures c.rot_word.ensures c.sub_word.ensures
+    turned_word a.w.now a.i _ _ _ _ c.if-i-eq0.true (entry a.rc.now c.requires.rcon (a.i / 4 - 1) (omega arith)) c.word_of-constant.ensures c.rot_word.ensures c.sub_word.ensures
 
 pub returns : goal.returns
 returns c =

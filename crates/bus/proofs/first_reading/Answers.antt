@@ -16,7 +16,7 @@ pub overflow_add-at : goal.overflow_add-at
 overflow_add-at c =
     let w = within_at c.args.unit c.args.s.now c.loop-at.at c.look-met.ensures c.met-1.given.1 in
     let l = length-drop c.loop-at.at c.args.s.now in
-    let f = c.well-formed in
+    let f = c.well_formed in
     omega (arith, w.1)
 
 pub loop-at-smaller : goal.loop-at-smaller

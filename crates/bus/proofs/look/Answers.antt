@@ -33,7 +33,7 @@ overflow_add-whole c =
     let ev = c.field_len-v.ensures ∙ ap field_len (mid_rest c.field_len-d.result s) in
     let b = field_bound (drop c.field_len-d.result s) in
     let l = length-drop c.field_len-d.result s in
-    let f = c.well-formed in
+    let f = c.well_formed in
     omega arith
 
 pub overflow_add-whole-2 : goal.overflow_add-whole-2
@@ -44,7 +44,7 @@ overflow_add-whole-2 c =
     let b = field_bound (drop c.field_len-d.result s) in
     let l = length-drop c.field_len-d.result s in
     let n = len_small _ (sym c.data_len-announced.ensures ∙ c.announced-1.given.1) in
-    let f = c.well-formed in
+    let f = c.well_formed in
     omega arith
 
 pub returns-then-s-whole : goal.returns-then-s-whole

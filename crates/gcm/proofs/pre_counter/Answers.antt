@@ -8,6 +8,6 @@ use Rattle.gcm.proofs.pre_counter.Goals as goal
 
 pub returns : goal.returns
 returns c =
-    let iv = c.args.t1 in
+    let iv = c.args.iv in
     let long : length iv ≡ 12 = search rules in
     pre_words iv c.word_of.result c.word_of-2.result long c.word_of.ensures c.word_of-2.ensures

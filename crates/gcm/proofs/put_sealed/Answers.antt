@@ -21,20 +21,20 @@ pub slice_bounds-counter-end-2 : goal.slice_bounds-counter-end-2
 slice_bounds-counter-end-2 c = sym (length-take-le c.args.n c.args.buf.now (omega arith))
 
 pub slice_bounds-tag_of-end-2 : goal.slice_bounds-tag_of-end-2
-slice_bounds-tag_of-end-2 c = sym (length-take-le c.args.n (c.counter.new.1.1.0 ++ drop c.args.n c.args.buf.now) (search rules))
+slice_bounds-tag_of-end-2 c = sym (length-take-le c.args.n (c.counter.new.s ++ drop c.args.n c.args.buf.now) (search rules))
 
 pub tag_of-tag-requires : goal.tag_of-tag-requires
 tag_of-tag-requires c =
-    let e = length-take-le c.args.n (c.counter.new.1.1.0 ++ drop c.args.n c.args.buf.now) (search rules) in
+    let e = length-take-le c.args.n (c.counter.new.s ++ drop c.args.n c.args.buf.now) (search rules) in
     (c.requires.0, omega arith)
 
 pub returns : goal.returns
 returns c =
     let a = c.args in
     let n = a.n in
-    let x = c.counter.new.1.1.0 in
+    let x = c.counter.new.s in
     let b = x ++ drop n a.buf.now in
-    let y = c.put_block.new.0 in
+    let y = c.put_block.new.s in
     let room = c.requires.2 in
     put_rest n b y (search rules)
     ∙ seal_put_law (cipher a.w.now) (λ k. le_of_eq (sym (cipher_length a.w.now k))) a.iv (product_by a.m.now) a.aad.now a.buf.now x y n _ _ (bytes_of 16 (num c.tag_of-tag.result))

@@ -14,11 +14,11 @@ slice_bounds-copy-end c = sym (length-take-le c.args.n c.args.s.now c.requires.0
 
 pub slice_bounds-counter-end-2 : goal.slice_bounds-counter-end-2
 slice_bounds-counter-end-2 c =
-    let l = c.copy.auto.1.0 in
-    sym (length-take-le c.args.n c.copy.new.1.0 (omega arith))
+    let l = c.copy.auto.dst in
+    sym (length-take-le c.args.n c.copy.new.dst (omega arith))
 
 pub returns : goal.returns
 returns c =
     let a = c.args in
-    text_put_law (cipher a.w.now) (λ b. le_of_eq (sym (cipher_length a.w.now b))) a.iv a.s.now a.out.now c.copy.new.1.0 c.counter.new.1.1.0 a.n _ _
+    text_put_law (cipher a.w.now) (λ b. le_of_eq (sym (cipher_length a.w.now b))) a.iv a.s.now a.out.now c.copy.new.dst c.counter.new.s a.n _ _
     c.requires.0 c.requires.1 c.copy.ensures c.pre_counter.ensures c.next.ensures c.counter.ensures

@@ -27,7 +27,7 @@ pub returns : goal.returns
 returns c =
     let a = c.args in
     -- what is known of the table among the parts of the state
-    let known = c.well-formed.0.1.1.1.1.1.0 in
+    let known = c.well_formed.0.1.1.1.1.1.0 in
     let n : length a.c.table.entries ≡ meters = search (length_of_map, known) in
     let all = file_taken a.c a.next a.out.now c.if-s-ge-COUNTER_MAX.false c.if-out-lt-FILE_LEN.false n _ _ refl c.put_table.ensures.buffer in
     record { answer = all.0; bytes = all.1 }

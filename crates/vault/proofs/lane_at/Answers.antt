@@ -7,6 +7,6 @@ use Rattle.vault.proofs.lane_at.Goals as goal
 
 pub returns-else-lane-lt-LANES : goal.returns-else-lane-lt-LANES
 returns-else-lane-lt-LANES c =
-    let a = c.args.t1 in
+    let a = c.args.a in
     let long : length a ≡ 8 = search rules in
     sym (get_or-eq_default a 0 (omega arith))

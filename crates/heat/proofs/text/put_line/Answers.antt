@@ -1,4 +1,5 @@
 -- `heat::text::put_line` meets its contract: a meter that is not listed has no line, and a listed one's is copied from where it begins. Assumes nothing.
+use mathlib.Core.Bool.{not}
 use Rattle.heat.proofs.UsesLaws.{listed_at, used_at}
 use Rattle.heat.proofs.SignedLaws.{read}
 use Rattle.heat.proofs.TextLaws.{no_line, a_line, share_found, share_fits, array_long}
@@ -26,7 +27,7 @@ returns-then-not-u c =
     let u = c.use_of-u in
     let s = a.start.now in
     let e = a.end.now in
-    let no = sym (listed_at s e a.m p.0 p.1 c.entry_at-a.ensures c.entry_at-b.ensures) ∙ sym u.ensures.listed ∙ not-true u.result.listed c.if-not-u.true in
+    let no = sym (listed_at s e a.m p.0 p.1 c.entry_at-a.ensures c.entry_at-b.ensures) ∙ sym u.ensures.listed ∙ not-true u.result.listed (ap not c.if-not-u.true) in
     let none = no_line (table_from s) (table_from e) a.m no in
     record { len = (sym (ap length none), omega arith); bytes = sym (ap (λ (l : List ℕ). over l a.out.now) none ∙ over_none a.out.now) }
 
@@ -58,7 +59,7 @@ returns c =
     let small = u.ensures.changed.1.1.1.0 in
     let z = u.result.used in
     let fits : SFits w64 z = record { sfits = omega arith } in
-    let yes = sym (listed_at s e a.m p.0 p.1 ea eb) ∙ sym u.ensures.listed ∙ not-false u.result.listed c.if-not-u.false in
+    let yes = sym (listed_at s e a.m p.0 p.1 ea eb) ∙ sym u.ensures.listed ∙ not-false u.result.listed (ap not c.if-not-u.false) in
     let is = a_line (table_from s) (table_from e) a.m yes (read z fits ∙ u.ensures.changed.1.0 ∙ used_at s e a.m p.0 p.1 ea eb) (share_found (table_from s) (table_from e) a.m yes p.4) in
     let n = ap length is in
     let long = l.ensures.from in

@@ -13,14 +13,14 @@ loop-i-init c =
     let a = c.args in
     let e = c.listed_in-i.ensures in
     let long : length a.x.w ≡ lanes = search rules in
-    let s = unseen_start a.x.w a.x.v a.position a.t1 long e.count in
+    let s = unseen_start a.x.w a.x.v a.position a.j long e.count in
     (e.room, omega arith, long, s.0, s.1)
 
 pub loop-i-preserved : goal.loop-i-preserved
 loop-i-preserved c =
     let a = c.args in
     let l = c.loop-i in
-    let s = unseen_step a.x.w a.x.v a.position a.t1 l.invariant.2 c.loop-i-test.true l.invariant.1 l.invariant.3 l.invariant.4 c.lane_at-number.ensures c.lane_at-seen.ensures c.one_less-next.ensures in
+    let s = unseen_step a.x.w a.x.v a.position a.j l.invariant.2 c.loop-i-test.true l.invariant.1 l.invariant.3 l.invariant.4 c.lane_at-number.ensures c.lane_at-seen.ensures c.one_less-next.ensures in
     (omega arith, omega arith, l.invariant.2, s.0, s.1)
 
 pub returns : goal.returns
@@ -28,4 +28,4 @@ returns c =
     let a = c.args in
     let l = c.loop-i in
     let z : l.i ≡ 0 = omega arith in
-    l.invariant.4 ∙ ap (λ (k : ℕ). unseen_below a.position a.x.w a.x.v (drop k (marks_of a.t1))) z
+    l.invariant.4 ∙ ap (λ (k : ℕ). unseen_below a.position a.x.w a.x.v (drop k (marks_of a.j))) z

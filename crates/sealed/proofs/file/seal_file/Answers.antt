@@ -31,9 +31,9 @@ returns c =
     let head = file_head g.version g.seal in
     let a = prepared_by g.w.now g.m.now in
     -- what is known of the table's entries
-    let known = c.well-formed.1.1.1.1.0.1.1.0 in
+    let known = c.well_formed.1.1.1.1.0.1.1.0 in
     let n : length g.t.entries ≡ meters = search (length_of_map, known) in
-    let b = put_mid head_len table_len out c.put_text.new.1.0 in
+    let b = put_mid head_len table_len out c.put_text.new.s in
     let all = file_done out _ room
     (framed_laid a (prepared_grows g.w.now g.m.now) nonce head (table_text g.t) out _ table_len table_len (length_head g.version g.seal) (length_table g.t n) refl room c.put_text.ensures
     (c.put_framed.ensures ∙ ap₂ (λ (n h : List ℕ). put_over (framed a n h (take table_len (drop head_len b))) b) c.nonce_of.ensures c.head_of.ensures)) in

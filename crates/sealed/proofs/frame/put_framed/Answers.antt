@@ -23,17 +23,17 @@ pub returns : goal.returns
 returns c =
     let a = c.args in
     let n = a.n in
-    let h = a.t4 in
+    let h = a.head in
     let o = a.out.now in
-    let o1 = c.copy.new.1.0 in
-    let y = c.seal_with.new.1.1.1.1.0 in
+    let o1 = c.copy.new.dst in
+    let y = c.seal_with.new.buf in
     let o2 = put_mid head_len (length o1 - head_len) o1 y in
     let t = c.bytes4-trailer.result in
-    let z = c.copy-2.new.1.0 in
+    let z = c.copy-2.new.dst in
     let f = head_len + n + tag_len in
     let lh : length h ≡ head_len = sym (slice-aggregate-copy c) in
-    let l1 : length o1 ≡ length o = c.copy.auto.1.0 in
-    let ly : length y ≡ length (mid_of head_len (length o1 - head_len) o1) = c.seal_with.auto.1.1.1.1.0 in
+    let l1 : length o1 ≡ length o = c.copy.auto.dst in
+    let ly : length y ≡ length (mid_of head_len (length o1 - head_len) o1) = c.seal_with.auto.buf in
     let l2 : length o2 ≡ length o1 = same_len_mid head_len (length o1 - head_len) o1 y ly in
     let e2 : o2 ≡ take head_len o1 ++ y = put_rest head_len o1 y (omega arith) in
     put_rest f o2 z (omega arith)
