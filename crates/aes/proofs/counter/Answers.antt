@@ -30,17 +30,17 @@ loop-at-preserved c =
     let b = c.first_block-text in
     let m = c.encrypt_by-mask in
     let h : at < length s = omega arith in
-    let p = put_mid at (length s - at) s x.new.0 in
+    let p = put_mid at (length s - at) s x.new.s in
     let text : bytes_of 16 (num b.result) ≡ padded 16 (drop at s) = b.ensures.bytes ∙ ap (padded 16) (mid_rest at s) in
     let e : p ≡ take at s ++ (xor_bytes (take 16 (drop at s)) (f (bytes_of 16 cb)) ++ drop 16 (drop at s)) =
-    put_rest at s x.new.0 (omega arith)
+    put_rest at s x.new.s (omega arith)
     ∙ ap (λ (t : List ℕ). take at s ++ t)
     (x.ensures ∙ ap (over (bytes_of 16 (num c.add.result))) (mid_rest at s)
     ∙ put_sum (drop at s) (num b.result) (num m.result) (num c.add.result) text c.add.ensures
     ∙ ap (λ (k : List ℕ). xor_bytes (take 16 (drop at s)) k ++ drop 16 (drop at s)) m.ensures)
     in (
       l.invariant.0,
-      same_len_mid at (length s - at) s x.new.0 x.auto.0 ∙ l.invariant.1,
+      same_len_mid at (length s - at) s x.new.s x.auto.s ∙ l.invariant.1,
       ap (λ (n : ℕ). take (at + 16) p ++ gctr f n (drop (at + 16) p)) c.next-cb.ensures
           ∙ gctr_turn f cb at s p (le_of_eq (sym (cipher_length c.args.w.now (bytes_of 16 cb)))) h e
           ∙ l.invariant.2,

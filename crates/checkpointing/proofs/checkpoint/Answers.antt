@@ -16,40 +16,40 @@ pub returns-in-Nothing : goal.returns-in-Nothing
 unfolding checkpoint_due
 returns-in-Nothing c =
     let a = c.args in
-    let all = checkpoint_quiet a.c a.out.now c.valid-fine.result c.serving-on.result c.valid-fine.ensures c.serving-on.ensures (ap not c.if-not-fine-on.false) c.enum_told-1.given.1 _ c.first_call.ensures in
+    let all = checkpoint_quiet a.c a.out.now c.valid-fine.result c.serving-on.result c.valid-fine.ensures c.serving-on.ensures (ap not c.if-not-fine-on.false) c.in-Nothing.is _ c.first_call.ensures in
     record { answer = all.0; bytes = all.1 }
 
 pub returns-in-File : goal.returns-in-File
 unfolding checkpoint_due checkpoint_step
 returns-in-File c =
     let a = c.args in
-    let all = checkpoint_puts a.c a.out.now c.valid-fine.result c.serving-on.result c.valid-fine.ensures c.serving-on.ensures (ap not c.if-not-fine-on.false) (c.due-1.given.1 ∙ ap D.Checkpoint c.enum_told-in-File-1.given.1) _ _ c.file_step.ensures in
+    let all = checkpoint_puts a.c a.out.now c.valid-fine.result c.serving-on.result c.valid-fine.ensures c.serving-on.ensures (ap not c.if-not-fine-on.false) (c.in-Checkpoint.is ∙ ap D.Checkpoint c.in-File.is) _ _ (c.file_step.ensures.answer, c.file_step.ensures.bytes) in
     record { answer = all.0; bytes = all.1 }
 
 pub returns-in-Version : goal.returns-in-Version
 unfolding checkpoint_due checkpoint_step
 returns-in-Version c =
     let a = c.args in
-    let all = checkpoint_quiet a.c a.out.now c.valid-fine.result c.serving-on.result c.valid-fine.ensures c.serving-on.ensures (ap not c.if-not-fine-on.false) (c.due-1.given.1 ∙ ap D.Checkpoint c.enum_told-in-Version-1.given.1) _ c.last_call.ensures in
+    let all = checkpoint_quiet a.c a.out.now c.valid-fine.result c.serving-on.result c.valid-fine.ensures c.serving-on.ensures (ap not c.if-not-fine-on.false) (c.in-Checkpoint.is ∙ ap D.Checkpoint c.in-Version.is) _ c.last_call.ensures in
     record { answer = all.0; bytes = all.1 }
 
 pub returns-in-Record : goal.returns-in-Record
 unfolding checkpoint_due
 returns-in-Record c =
     let a = c.args in
-    let all = checkpoint_other a.c a.out.now c.valid-fine.result c.serving-on.result c.valid-fine.ensures c.serving-on.ensures (ap not c.if-not-fine-on.false) c.enum_told-in-Record-1.given.1 _ c.refused-in-Record.ensures refl in
+    let all = checkpoint_other a.c a.out.now c.valid-fine.result c.serving-on.result c.valid-fine.ensures c.serving-on.ensures (ap not c.if-not-fine-on.false) c.in-Record.is _ c.refused-in-Record.ensures refl in
     record { answer = all.0; bytes = all.1 }
 
 pub returns-in-Truncate : goal.returns-in-Truncate
 unfolding checkpoint_due
 returns-in-Truncate c =
     let a = c.args in
-    let all = checkpoint_other a.c a.out.now c.valid-fine.result c.serving-on.result c.valid-fine.ensures c.serving-on.ensures (ap not c.if-not-fine-on.false) c.due-in-Truncate-1.given.1 _ c.refused-in-Truncate.ensures refl in
+    let all = checkpoint_other a.c a.out.now c.valid-fine.result c.serving-on.result c.valid-fine.ensures c.serving-on.ensures (ap not c.if-not-fine-on.false) c.in-Truncate.is _ c.refused-in-Truncate.ensures refl in
     record { answer = all.0; bytes = all.1 }
 
 pub returns-in-Recover : goal.returns-in-Recover
 unfolding checkpoint_due
 returns-in-Recover c =
     let a = c.args in
-    let all = checkpoint_other a.c a.out.now c.valid-fine.result c.serving-on.result c.valid-fine.ensures c.serving-on.ensures (ap not c.if-not-fine-on.false) c.due-in-Recover-1.given.1 _ c.refused-in-Recover.ensures refl in
+    let all = checkpoint_other a.c a.out.now c.valid-fine.result c.serving-on.result c.valid-fine.ensures c.serving-on.ensures (ap not c.if-not-fine-on.false) c.in-Recover.is _ c.refused-in-Recover.ensures refl in
     record { answer = all.0; bytes = all.1 }

@@ -40,12 +40,12 @@ pub returns-then-fits : goal.returns-then-fits
 returns-then-fits c =
     let a = c.args in
     let all = open_opens (cipher a.w.now) (product_by a.m.now) a.iv a.aad.now a.s.now a.out.now c.if-s-lt-TAG_LEN.false c.if-n-aad.false c.if-out-n.false
-    (λ b. le_of_eq (sym (cipher_length a.w.now b))) _ (sym c.fits2.ensures ∙ c.if-fits.true) c.put_text.ensures in
+    (λ b. le_of_eq (sym (cipher_length a.w.now b))) _ (sym c.fits.ensures ∙ c.if-fits.true) c.put_text.ensures in
     record { answer = all.0; buffer = all.1 }
 
 pub returns : goal.returns
 returns c =
     let a = c.args in
     let all = open_fails (cipher a.w.now) (product_by a.m.now) a.iv a.aad.now a.s.now a.out.now c.if-s-lt-TAG_LEN.false c.if-n-aad.false c.if-out-n.false
-    (sym c.fits2.ensures ∙ c.if-fits.false) in
+    (sym c.fits.ensures ∙ c.if-fits.false) in
     record { answer = all.0; buffer = all.1 }

@@ -1,15 +1,8 @@
-use Rattle.octets.specs.Lists.{at}
 use Rattle.octets.proofs.EveryLaws.{all_none, all_more}
-use Rattle.protocol.specs.Vaults.{lane_ok}
 use native.Mathlib.Omega.{arith}
 use mathlib.Core.Path.{◌≡◌, sym}
-use mathlib.Core.Bool.{Bool}
-use Prim.Native.Nat.{ℕ, ◌-◌}
-use Rattle.protocol.specs.declared.Vault.{Vault}
+use Rattle.vault.proofs.lanes_ok.Invariants.{keeps}
 use Rattle.vault.proofs.lanes_ok.Goals as goal
-
-abbrev keeps : Vault → ℕ → Bool
-keeps x i = lane_ok (at x.w i) (at x.v i) (at x.r i)
 
 pub loop-lane-init : goal.loop-lane-init
 loop-lane-init c = (omega arith, sym (all_none _))

@@ -53,9 +53,9 @@ returns-then-not-unframe c =
 pub returns-then-not-read : goal.returns-then-not-read
 returns-then-not-read c =
     let a = c.args in
-    c.closed-then-not-read.ensures ∙ read_other a.w.now a.m.now a.s.now c.legal_file.ensures (ap not c.if-not-legal_file.false) c.u64_in-seal.ensures.number c.nonce_of.ensures c.unframe.ensures.answer (ap not c.if-not-unframe.false) (replicate {A = ℕ} table_len 0) (length-replicate {A = ℕ} table_len 0) c.unframe.ensures.buffer c.table_in-read.ensures.legal (ap not c.if-not-read.true)
+    c.closed-then-not-read.ensures ∙ read_other a.w.now a.m.now a.s.now c.legal_file.ensures (ap not c.if-not-legal_file.false) c.u64_in-seal.ensures.number c.nonce_of.ensures c.unframe.ensures.answer (ap not c.if-not-unframe.false) (replicate {A = ℕ} table_len 0) (length-replicate {A = ℕ} table_len 0) c.unframe.ensures.buffer c.table_in-read.ensures.legal c.if-not-read.true
 
 pub returns : goal.returns
 returns c =
     let a = c.args in
-    read_opens a.w.now a.m.now a.s.now c.legal_file.ensures (ap not c.if-not-legal_file.false) c.u64_in-seal.ensures.number c.nonce_of.ensures c.unframe.ensures.answer (ap not c.if-not-unframe.false) (replicate {A = ℕ} table_len 0) (length-replicate {A = ℕ} table_len 0) c.unframe.ensures.buffer c.table_in-read.ensures.legal (ap not c.if-not-read.false) c.u64_in-version.ensures.number c.table_in-read.ensures.table
+    read_opens a.w.now a.m.now a.s.now c.legal_file.ensures (ap not c.if-not-legal_file.false) c.u64_in-seal.ensures.number c.nonce_of.ensures c.unframe.ensures.answer (ap not c.if-not-unframe.false) (replicate {A = ℕ} table_len 0) (length-replicate {A = ℕ} table_len 0) c.unframe.ensures.buffer c.table_in-read.ensures.legal c.if-not-read.false c.u64_in-version.ensures.number c.table_in-read.ensures.table
