@@ -118,6 +118,7 @@ pub struct Held {
     pub lane: u8,
     pub position: u64,
 }
+
 #[derive(Clone, Copy)]
 pub struct State {
     pub vault: Vault,

@@ -17,7 +17,7 @@ loop-i-preserved c =
     let l = c.loop-i in
     let h : l.i < length (marks_of a.j) = omega arith in
     elim c.if-position-p.branch [
-      then-position-p w ↦ (omega arith, omega arith, ap length w.positions-is ∙ simp length-set l.invariant.2, ap length w.lanes-is ∙ simp length-set l.invariant.3, rw (w.positions-is, w.lanes-is, w.count-is) (laid_in a.position a.j h l.invariant.4 (omega arith) w.if-position-p.true))
+      | then-position-p w ↦ (omega arith, omega arith, ap length w.positions-is ∙ simp length-set l.invariant.2, ap length w.lanes-is ∙ simp length-set l.invariant.3, rw (w.positions-is, w.lanes-is, w.count-is) (laid_in a.position a.j h l.invariant.4 (omega arith) w.if-position-p.true))
       | else-position-p w ↦ (omega arith, omega arith, ap length w.positions-is ∙ l.invariant.2, ap length w.lanes-is ∙ l.invariant.3, rw (w.positions-is, w.lanes-is, w.count-is) (laid_out_law a.position a.j h l.invariant.4 w.if-position-p.false))
     ]
 

@@ -9,7 +9,7 @@ use Prim.Native.Nat.{◌-◌, ◌≤◌}
 use Rattle.journal.proofs.marks.journal_from.Given as goal
 
 abbrev pub invariant-loop-i : goal.invariant-loop-i
-invariant-loop-i l =     (l.i ≤ l.n) × (l.count ≤ l.i) × (length l.positions ≡ listed) × (length l.lanes ≡ listed) × Laid (marks_from l.position (take l.i (marks_of l.j))) l.positions l.lanes l.count
+invariant-loop-i l = (l.i ≤ l.n) × (l.count ≤ l.i) × (length l.positions ≡ listed) × (length l.lanes ≡ listed) × Laid (marks_from l.position (take l.i (marks_of l.j))) l.positions l.lanes l.count
 
 abbrev pub decreases-loop-i : goal.decreases-loop-i
 decreases-loop-i l = l.n - l.i

@@ -17,7 +17,7 @@ loop-i-preserved c =
     let l = c.loop-i in
     let h = c.loop-i-test.true in
     elim c.if-position-q.branch [
-      then-position-q w ↦ (omega arith, omega arith, l.invariant.2, l.invariant.3, ap length w.items-is ∙ simp length-set l.invariant.4, rw (w.items-is, w.count-is) (kept_in a.position a.p.items _ l.i _ h (omega arith) l.invariant.5 (omega arith) w.if-position-q.true))
+      | then-position-q w ↦ (omega arith, omega arith, l.invariant.2, l.invariant.3, ap length w.items-is ∙ simp length-set l.invariant.4, rw (w.items-is, w.count-is) (kept_in a.position a.p.items _ l.i _ h (omega arith) l.invariant.5 (omega arith) w.if-position-q.true))
       | else-position-q w ↦ (omega arith, omega arith, l.invariant.2, l.invariant.3, ap length w.items-is ∙ l.invariant.4, rw (w.items-is, w.count-is) (kept_out a.position a.p.items _ l.i _ h (omega arith) l.invariant.5 w.if-position-q.false))
     ]
 

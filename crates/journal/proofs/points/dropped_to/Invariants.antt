@@ -8,7 +8,7 @@ use Prim.Native.Nat.{◌-◌, ◌≤◌}
 use Rattle.journal.proofs.points.dropped_to.Given as goal
 
 abbrev pub invariant-loop-i : goal.invariant-loop-i
-invariant-loop-i l =     (l.i ≤ l.n) × (l.count ≤ l.i) × (l.n ≤ points_max) × (length l.old ≡ points_max) × (length l.items ≡ points_max) × Kept (points_above l.position (take l.i (take l.n l.old))) l.items l.count
+invariant-loop-i l = (l.i ≤ l.n) × (l.count ≤ l.i) × (l.n ≤ points_max) × (length l.old ≡ points_max) × (length l.items ≡ points_max) × Kept (points_above l.position (take l.i (take l.n l.old))) l.items l.count
 
 abbrev pub decreases-loop-i : goal.decreases-loop-i
 decreases-loop-i l = l.n - l.i
