@@ -3,12 +3,10 @@
 use Prim.Native.Nat.{ℕ, suc, ◌+◌, ◌≤◌, ◌<◌}
 use mathlib.Core.Path.{◌≡◌, refl, sym, ap, subst, ◌∙◌}
 use mathlib.Core.Bool.{Bool, true, false, not}
-use mathlib.Core.List.{List, [], ◌∷◌}
+use mathlib.Core.List.{List, []}
 use native.Mathlib.Numerals.{add-one}
 use native.Mathlib.Omega.{arith}
 use borrow.Author.Tests.{not-true, not-false, lt-ltb, le-ltb}
-use types.Run.{OneOf, miss}
-use denote.Enum.Declared.{tag_of}
 use lib.ListN.{length}
 use Rattle.octets.specs.Lists.{put_over}
 use Rattle.protocol.specs.States.{no_journal, no_points, valid, valid_by}
@@ -22,7 +20,6 @@ use Rattle.protocol.specs.declared.Journal.{Journal}
 use Rattle.protocol.specs.declared.Points.{Points}
 use Rattle.protocol.specs.declared.Phase.{Phase}
 use Rattle.protocol.specs.declared.Phase.TheVariants as F
-use Rattle.protocol.specs.contracts.Due as due
 use Rattle.protocol.specs.declared.Due.{Due}
 use Rattle.protocol.specs.declared.Due.TheVariants as D
 use Rattle.protocol.specs.declared.RecoverStep.{RecoverStep}
@@ -83,14 +80,14 @@ pub still : (o : List ℕ) (r : Answer) (s : Answered) → shown_as r [] ≡ s �
 unfolding shown_as
 still o r s h = subst (Met o o r) h (refl, refl)
 
--- a store of another operation is due: its tag is one of the first four
-pub other_due : (c : State) (room : ℕ) (d : Due) → OneOf (0 ∷ 1 ∷ 2 ∷ 3 ∷ []) (tag_of due.the_type d) → refusing c 1 [] ≡ recover_due c room d
+-- the store that is due is another operation's: it is no step of Recover
+pub other_due : (c : State) (room : ℕ) (d : Due) → ((step : RecoverStep) → d ≡ D.Recover step → ⊥) → refusing c 1 [] ≡ recover_due c room d
 unfolding recover_due
 other_due c room D.Nothing h = refl
 other_due c room D.Record h = refl
 other_due c room (D.Checkpoint step) h = refl
 other_due c room (D.Truncate position step) h = refl
-other_due c room (D.Recover step) h = absurd (miss (0 ∷ 1 ∷ 2 ∷ 3 ∷ []) 4 tt h)
+other_due c room (D.Recover step) h = absurd (h step refl)
 
 pub on_other : (c : State) (o : List ℕ) (r : Answer) → r ≡ refused_with c R.Condition → refusing c 1 [] ≡ recover_due c (length o) c.due → Met o o r (recover_due c (length o) c.due)
 unfolding shown_as shown number_of values_of

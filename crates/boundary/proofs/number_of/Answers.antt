@@ -4,60 +4,60 @@ use Rattle.boundary.proofs.number_of.Goals as goal
 
 pub returns-in-Condition : goal.returns-in-Condition
 unfolding number_of
-returns-in-Condition c = rw c.enum_told-1.given.1
+returns-in-Condition c = rw c.in-Condition.is
 
 pub returns-in-Numbers : goal.returns-in-Numbers
 unfolding number_of
-returns-in-Numbers c = rw c.enum_told-in-Numbers-1.given.1
+returns-in-Numbers c = rw c.in-Numbers.is
 
 pub returns-in-Length : goal.returns-in-Length
 unfolding number_of
-returns-in-Length c = rw c.why-1.given.1
+returns-in-Length c = rw c.in-Length.is
 
 pub returns-in-Transaction : goal.returns-in-Transaction
 unfolding number_of
-returns-in-Transaction c = rw c.enum_told-in-Transaction-1.given.1
+returns-in-Transaction c = rw c.in-Transaction.is
 
 pub returns-in-Lane : goal.returns-in-Lane
 unfolding number_of
-returns-in-Lane c = rw c.enum_told-in-Lane-1.given.1
+returns-in-Lane c = rw c.in-Lane.is
 
 pub returns-in-Position : goal.returns-in-Position
 unfolding number_of
-returns-in-Position c = rw c.enum_told-in-Position-1.given.1
+returns-in-Position c = rw c.in-Position.is
 
 pub returns-in-Full : goal.returns-in-Full
 unfolding number_of
-returns-in-Full c = rw c.enum_told-in-Full-1.given.1
+returns-in-Full c = rw c.in-Full.is
 
 pub returns-in-Spent : goal.returns-in-Spent
 unfolding number_of
-returns-in-Spent c = rw c.enum_told-in-Spent-1.given.1
+returns-in-Spent c = rw c.in-Spent.is
 
 pub returns-in-Closed : goal.returns-in-Closed
 unfolding number_of
-returns-in-Closed c = rw c.why-in-Closed-1.given.1
+returns-in-Closed c = rw c.in-Closed.is
 
 pub returns-in-Epoch : goal.returns-in-Epoch
 unfolding number_of
-returns-in-Epoch c = rw c.why-in-Epoch-1.given.1
+returns-in-Epoch c = rw c.in-Epoch.is
 
 pub returns-in-Turn : goal.returns-in-Turn
 unfolding number_of
-returns-in-Turn c = rw c.why-in-Turn-1.given.1
+returns-in-Turn c = rw c.in-Turn.is
 
 pub returns-in-Version : goal.returns-in-Version
 unfolding number_of
-returns-in-Version c = rw c.enum_told-in-Version-1.given.1
+returns-in-Version c = rw c.in-Version.is
 
 pub returns-in-Missing : goal.returns-in-Missing
 unfolding number_of
-returns-in-Missing c = rw c.why-in-Missing-1.given.1
+returns-in-Missing c = rw c.in-Missing.is
 
 pub returns-in-Point : goal.returns-in-Point
 unfolding number_of
-returns-in-Point c = rw c.enum_told-in-Point-1.given.1
+returns-in-Point c = rw c.in-Point.is
 
 pub returns-in-Unseen : goal.returns-in-Unseen
 unfolding number_of
-returns-in-Unseen c = rw c.enum_told-in-Unseen-1.given.1
+returns-in-Unseen c = rw c.in-Unseen.is

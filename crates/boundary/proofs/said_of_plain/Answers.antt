@@ -5,8 +5,8 @@ use Rattle.boundary.proofs.said_of_plain.Goals as goal
 
 pub returns-in-Put : goal.returns-in-Put
 unfolding said_of named plain_by
-returns-in-Put c = rw (c.named.ensures, c.enum_told-1.given.1)
+returns-in-Put c = rw (c.named.ensures, c.in-Put.is)
 
 pub returns-in-Room : goal.returns-in-Room
 unfolding said_of plain_by
-returns-in-Room c = rw (c.refused.ensures, c.enum_told-in-Room-1.given.1)
+returns-in-Room c = rw (c.refused.ensures, c.in-Room.is)

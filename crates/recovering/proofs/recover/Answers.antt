@@ -16,21 +16,21 @@ use Rattle.recovering.proofs.recover.Goals as goal
 pub returns-then-not-fine-free : goal.returns-then-not-fine-free
 returns-then-not-fine-free c =
     let g = c.args in
-    let all = on_cold g.c g.checkpoint.now g.log.now g.out.now _ c.enum_told-1.given.1
+    let all = on_cold g.c g.checkpoint.now g.log.now g.out.now _ c.in-Cold.is
     (ap (λ (y : Answer). shown_as y []) c.refused.ensures ∙ first_condition g.c g.checkpoint.now g.log.now c.valid-fine.ensures c.is_nothing-free.ensures (ap not c.if-not-fine-free.true)) in
     record { answer = all.0; bytes = all.1 }
 
 pub returns-then-log-gt-LOG_MAX : goal.returns-then-log-gt-LOG_MAX
 returns-then-log-gt-LOG_MAX c =
     let g = c.args in
-    let all = on_cold g.c g.checkpoint.now g.log.now g.out.now _ c.enum_told-1.given.1
+    let all = on_cold g.c g.checkpoint.now g.log.now g.out.now _ c.in-Cold.is
     (ap (λ (y : Answer). shown_as y []) c.refused-then-log-gt-LOG_MAX.ensures ∙ first_long g.c g.checkpoint.now g.log.now c.valid-fine.ensures c.is_nothing-free.ensures (ap not c.if-not-fine-free.false) c.if-log-gt-LOG_MAX.true) in
     record { answer = all.0; bytes = all.1 }
 
 pub returns-then-spent : goal.returns-then-spent
 returns-then-spent c =
     let g = c.args in
-    let all = on_cold g.c g.checkpoint.now g.log.now g.out.now _ c.enum_told-1.given.1
+    let all = on_cold g.c g.checkpoint.now g.log.now g.out.now _ c.in-Cold.is
     (ap (λ (y : Answer). shown_as y []) c.refused-then-spent.ensures ∙ first_spent g.c g.checkpoint.now g.log.now c.valid-fine.ensures c.is_nothing-free.ensures (ap not c.if-not-fine-free.false) c.if-log-gt-LOG_MAX.false c.spent.ensures c.if-spent.true) in
     record { answer = all.0; bytes = all.1 }
 
@@ -41,49 +41,49 @@ overflow_add-value c =
 pub returns-then-not-fine : goal.returns-then-not-fine
 returns-then-not-fine c =
     let g = c.args in
-    let all = on_invalid g.c g.checkpoint.now g.log.now g.out.now _ c.enum_told-in-Recovering-1.given.1 c.valid-fine.ensures (ap not c.if-not-fine.true) c.refused-then-not-fine.ensures in
+    let all = on_invalid g.c g.checkpoint.now g.log.now g.out.now _ c.in-Recovering.is c.valid-fine.ensures (ap not c.if-not-fine.true) c.refused-then-not-fine.ensures in
     record { answer = all.0; bytes = all.1 }
 
 pub returns-in_default : goal.returns-in_default
 returns-in_default c =
     let g = c.args in
-    let all = on_valid g.c g.checkpoint.now g.log.now g.out.now _ c.enum_told-in-Recovering-1.given.1 c.valid-fine.ensures (ap not c.if-not-fine.false) _
-    (on_other g.c g.out.now _ c.refused-in_default.ensures (other_due g.c _ g.c.due c.in_default.keys2)) in
+    let all = on_valid g.c g.checkpoint.now g.log.now g.out.now _ c.in-Recovering.is c.valid-fine.ensures (ap not c.if-not-fine.false) _
+    (on_other g.c g.out.now _ c.refused-in_default.ensures (other_due g.c _ g.c.due c.in_default.not-Recover)) in
     record { answer = all.0; bytes = all.1 }
 
 pub returns-then-s-ge-COUNTER_MAX : goal.returns-then-s-ge-COUNTER_MAX
 returns-then-s-ge-COUNTER_MAX c =
     let g = c.args in
-    let all = on_valid g.c g.checkpoint.now g.log.now g.out.now _ c.enum_told-in-Recovering-1.given.1 c.valid-fine.ensures (ap not c.if-not-fine.false) _
-    (on_file g.c g.out.now c.due-1.given.1 _ c.step-1.given.1 _ c.refused-then-s-ge-COUNTER_MAX.ensures (file_spent g.c _ g.out.now c.if-s-ge-COUNTER_MAX.true)) in
+    let all = on_valid g.c g.checkpoint.now g.log.now g.out.now _ c.in-Recovering.is c.valid-fine.ensures (ap not c.if-not-fine.false) _
+    (on_file g.c g.out.now c.in-Recover.is _ c.in-File.is _ c.refused-then-s-ge-COUNTER_MAX.ensures (file_spent g.c _ g.out.now c.if-s-ge-COUNTER_MAX.true)) in
     record { answer = all.0; bytes = all.1 }
 
 pub returns-then-out-lt-FILE_LEN : goal.returns-then-out-lt-FILE_LEN
 returns-then-out-lt-FILE_LEN c =
     let g = c.args in
-    let all = on_valid g.c g.checkpoint.now g.log.now g.out.now _ c.enum_told-in-Recovering-1.given.1 c.valid-fine.ensures (ap not c.if-not-fine.false) _
-    (on_file g.c g.out.now c.due-1.given.1 _ c.step-1.given.1 _ c.refused-then-out-lt-FILE_LEN.ensures (file_short g.c _ g.out.now c.if-s-ge-COUNTER_MAX.false c.if-out-lt-FILE_LEN.true)) in
+    let all = on_valid g.c g.checkpoint.now g.log.now g.out.now _ c.in-Recovering.is c.valid-fine.ensures (ap not c.if-not-fine.false) _
+    (on_file g.c g.out.now c.in-Recover.is _ c.in-File.is _ c.refused-then-out-lt-FILE_LEN.ensures (file_short g.c _ g.out.now c.if-s-ge-COUNTER_MAX.false c.if-out-lt-FILE_LEN.true)) in
     record { answer = all.0; bytes = all.1 }
 
 pub returns-then-not-goes : goal.returns-then-not-goes
 returns-then-not-goes c =
     let g = c.args in
-    let all = on_valid g.c g.checkpoint.now g.log.now g.out.now _ c.enum_told-in-Recovering-1.given.1 c.valid-fine.ensures (ap not c.if-not-fine.false) _
-    (on_number g.c g.out.now c.due-1.given.1 _ c.step-in-Number-1.given.1 c.number_step-set.ensures (ap (λ (y : Answer). shown_as y []) c.refused-then-not-goes.ensures ∙ step_stands g.c c.number_step-set.result (ap not c.if-not-goes.true))) in
+    let all = on_valid g.c g.checkpoint.now g.log.now g.out.now _ c.in-Recovering.is c.valid-fine.ensures (ap not c.if-not-fine.false) _
+    (on_number g.c g.out.now c.in-Recover.is _ c.in-Number.is c.number_step-set.ensures (ap (λ (y : Answer). shown_as y []) c.refused-then-not-goes.ensures ∙ step_stands g.c c.number_step-set.result (ap not c.if-not-goes.true))) in
     record { answer = all.0; bytes = all.1 }
 
 pub returns-in-Read : goal.returns-in-Read
 returns-in-Read c =
     let g = c.args in
-    let all = on_cold g.c g.checkpoint.now g.log.now g.out.now _ c.enum_told-1.given.1
-    (first_taken g.c g.checkpoint.now g.log.now c.valid-fine.ensures c.is_nothing-free.ensures (ap not c.if-not-fine-free.false) c.if-log-gt-LOG_MAX.false c.spent.ensures c.if-spent.false c.read-got.result c.read-got.ensures c.enum_told-in-Read-1.given.1 c.set_n-raised.result c.set_n-raised.ensures) in
+    let all = on_cold g.c g.checkpoint.now g.log.now g.out.now _ c.in-Cold.is
+    (first_taken g.c g.checkpoint.now g.log.now c.valid-fine.ensures c.is_nothing-free.ensures (ap not c.if-not-fine-free.false) c.if-log-gt-LOG_MAX.false c.spent.ensures c.if-spent.false c.read-got.result c.read-got.ensures c.in-Read.is c.set_n-raised.result c.set_n-raised.ensures) in
     record { answer = all.0; bytes = all.1 }
 
 pub returns-in-Stopped : goal.returns-in-Stopped
 returns-in-Stopped c =
     let g = c.args in
-    let all = on_cold g.c g.checkpoint.now g.log.now g.out.now _ c.enum_told-1.given.1
-    (ap (λ (y : Answer). shown_as y []) c.refused-in-Stopped.ensures ∙ first_stopped g.c g.checkpoint.now g.log.now c.valid-fine.ensures c.is_nothing-free.ensures (ap not c.if-not-fine-free.false) c.if-log-gt-LOG_MAX.false c.spent.ensures c.if-spent.false c.read-got.result c.read-got.ensures c.end-1.given.1) in
+    let all = on_cold g.c g.checkpoint.now g.log.now g.out.now _ c.in-Cold.is
+    (ap (λ (y : Answer). shown_as y []) c.refused-in-Stopped.ensures ∙ first_stopped g.c g.checkpoint.now g.log.now c.valid-fine.ensures c.is_nothing-free.ensures (ap not c.if-not-fine-free.false) c.if-log-gt-LOG_MAX.false c.spent.ensures c.if-spent.false c.read-got.result c.read-got.ensures c.in-Stopped.is) in
     record { answer = all.0; bytes = all.1 }
 
 pub returns-else-out-lt-FILE_LEN : goal.returns-else-out-lt-FILE_LEN
@@ -92,26 +92,26 @@ returns-else-out-lt-FILE_LEN c =
     -- what is known of the table among the parts of the state
     let k = c.well_formed.0.1.1.1.1.1.0 in
     let n : length g.c.table.entries ≡ 256 = search (length_of_map, k) in
-    let all = on_valid g.c g.checkpoint.now g.log.now g.out.now _ c.enum_told-in-Recovering-1.given.1 c.valid-fine.ensures (ap not c.if-not-fine.false) _
-    (on_file g.c g.out.now c.due-1.given.1 _ c.step-1.given.1 _ refl (file_taken g.c _ g.out.now c.if-s-ge-COUNTER_MAX.false c.if-out-lt-FILE_LEN.false n _ _ refl c.put_table.ensures.buffer)) in
+    let all = on_valid g.c g.checkpoint.now g.log.now g.out.now _ c.in-Recovering.is c.valid-fine.ensures (ap not c.if-not-fine.false) _
+    (on_file g.c g.out.now c.in-Recover.is _ c.in-File.is _ refl (file_taken g.c _ g.out.now c.if-s-ge-COUNTER_MAX.false c.if-out-lt-FILE_LEN.false n _ _ refl c.put_table.ensures.buffer)) in
     record { answer = all.0; bytes = all.1 }
 
 pub returns-else-not-goes : goal.returns-else-not-goes
 returns-else-not-goes c =
     let g = c.args in
-    let all = on_valid g.c g.checkpoint.now g.log.now g.out.now _ c.enum_told-in-Recovering-1.given.1 c.valid-fine.ensures (ap not c.if-not-fine.false) _
-    (on_number g.c g.out.now c.due-1.given.1 _ c.step-in-Number-1.given.1 c.number_step-set.ensures (step_goes g.c c.number_step-set.result (ap not c.if-not-goes.false))) in
+    let all = on_valid g.c g.checkpoint.now g.log.now g.out.now _ c.in-Recovering.is c.valid-fine.ensures (ap not c.if-not-fine.false) _
+    (on_number g.c g.out.now c.in-Recover.is _ c.in-Number.is c.number_step-set.ensures (step_goes g.c c.number_step-set.result (ap not c.if-not-goes.false))) in
     record { answer = all.0; bytes = all.1 }
 
 pub returns-in-Empty : goal.returns-in-Empty
 returns-in-Empty c =
     let g = c.args in
-    let all = on_valid g.c g.checkpoint.now g.log.now g.out.now _ c.enum_told-in-Recovering-1.given.1 c.valid-fine.ensures (ap not c.if-not-fine.false) _
-    (on_empty g.c g.out.now c.due-1.given.1 _ c.enum_told-in-Empty-1.given.1 (emptied g.c c.no_journal-journal.result c.no_points-points.result c.no_journal-journal.ensures c.no_points-points.ensures)) in
+    let all = on_valid g.c g.checkpoint.now g.log.now g.out.now _ c.in-Recovering.is c.valid-fine.ensures (ap not c.if-not-fine.false) _
+    (on_empty g.c g.out.now c.in-Recover.is _ c.in-Empty.is (emptied g.c c.no_journal-journal.result c.no_points-points.result c.no_journal-journal.ensures c.no_points-points.ensures)) in
     record { answer = all.0; bytes = all.1 }
 
 pub returns-in-Serving : goal.returns-in-Serving
 returns-in-Serving c =
     let g = c.args in
-    let all = on_serving g.c g.checkpoint.now g.log.now g.out.now _ c.enum_told-in-Serving-1.given.1 c.refused-in-Serving.ensures in
+    let all = on_serving g.c g.checkpoint.now g.log.now g.out.now _ c.in-Serving.is c.refused-in-Serving.ensures in
     record { answer = all.0; bytes = all.1 }

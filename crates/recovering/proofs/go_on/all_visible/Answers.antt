@@ -1,16 +1,9 @@
-use Rattle.octets.specs.Lists.{at}
 use Rattle.octets.proofs.EveryLaws.{all_none, all_more}
 use Rattle.protocol.specs.Recover.{all_visible}
 use native.Mathlib.Omega.{arith}
 use mathlib.Core.Path.{◌≡◌, sym}
-use mathlib.Core.Bool.{Bool}
-use Prim.Native.Nat.{ℕ, ◌-◌}
-use lib.Dec.{eqb}
-use Rattle.protocol.specs.declared.Vault.{Vault}
+use Rattle.recovering.proofs.go_on.all_visible.Invariants.{seen}
 use Rattle.recovering.proofs.go_on.all_visible.Goals as goal
-
-abbrev seen : Vault → ℕ → Bool
-seen x i = eqb (at x.w i) (at x.v i)
 
 pub loop-lane-init : goal.loop-lane-init
 loop-lane-init c = (omega arith, sym (all_none _))

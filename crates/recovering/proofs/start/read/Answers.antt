@@ -7,4 +7,4 @@ use Rattle.recovering.proofs.start.read.Goals as goal
 pub returns : goal.returns
 returns c =
     let g = c.args in
-    read_under g.key g.x g.checkpoint.now g.log.now (key_of _ _) (prepared_parts g.key _ _ _ c.prepare_in-schedule.ensures refl) c.read_under.ensures
+    read_under g.key g.x g.checkpoint.now g.log.now (key_of _ _) (prepared_parts g.key _ _ _ (c.prepare_in-schedule.ensures.schedule, c.prepare_in-schedule.ensures.multiples) refl) c.read_under.ensures

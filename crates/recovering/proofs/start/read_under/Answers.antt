@@ -16,14 +16,14 @@ returns-then-s-eq0 c =
 pub returns-then-version-s : goal.returns-then-version-s
 returns-then-version-s c =
     let g = c.args in
-    from_other (prepared_by g.w.now g.m.now) g.x g.checkpoint.now g.log.now c.if-s-eq0.false c.open_file-file.result c.open_file-file.ensures c.head-1.given.1 c.if-version-s.true c.turned_down-then-version-s.ensures
+    from_other (prepared_by g.w.now g.m.now) g.x g.checkpoint.now g.log.now c.if-s-eq0.false c.open_file-file.result c.open_file-file.ensures c.in-File.is c.if-version-s.true c.turned_down-then-version-s.ensures
 
 pub returns-else-version-s : goal.returns-else-version-s
 returns-else-version-s c =
     let g = c.args in
-    from_file (prepared_by g.w.now g.m.now) g.x g.checkpoint.now g.log.now c.if-s-eq0.false c.open_file-file.result c.open_file-file.ensures c.head-1.given.1 c.if-version-s.false c.replay-in-File.ensures.read
+    from_file (prepared_by g.w.now g.m.now) g.x g.checkpoint.now g.log.now c.if-s-eq0.false c.open_file-file.result c.open_file-file.ensures c.in-File.is c.if-version-s.false c.replay-in-File.ensures.read
 
 pub returns-in-Closed : goal.returns-in-Closed
 returns-in-Closed c =
     let g = c.args in
-    from_closed (prepared_by g.w.now g.m.now) g.x g.checkpoint.now g.log.now c.if-s-eq0.false c.open_file-file.result c.open_file-file.ensures c.enum_told-1.given.1 c.turned_down-in-Closed.ensures
+    from_closed (prepared_by g.w.now g.m.now) g.x g.checkpoint.now g.log.now c.if-s-eq0.false c.open_file-file.result c.open_file-file.ensures c.in-Closed.is c.turned_down-in-Closed.ensures
