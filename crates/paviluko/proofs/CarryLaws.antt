@@ -4,9 +4,8 @@
 -- Assumes nothing.
 use Prim.Native.Nat.{ℕ}
 use mathlib.Core.Path.{◌≡◌, ap, sym, ◌∙◌}
-use mathlib.Core.Bool.{Bool, true, false, not, cond}
+use mathlib.Core.Bool.{Bool, true, false, cond}
 use mathlib.Core.List.{List, []}
-use borrow.Author.Tests.{not-true, not-false}
 use Rattle.octets.specs.Lists.{put_over}
 use Rattle.protocol.specs.Said.{Answered}
 use Rattle.protocol.specs.declared.State.{State}
@@ -17,9 +16,9 @@ use Rattle.boundary.specs.declared.Reply.{Reply}
 
 module _ (s : FlatState) {f : Bool} (k : f ≡ known s) where
   -- not known
-  module _ (t : not f ≡ true) (a : Answered) where
+  module _ (t : f ≡ false) (a : Answered) where
     closed : known s ≡ false
-    closed = sym k ∙ not-true f t
+    closed = sym k ∙ t
 
     pub unknown_reply : {r : Reply} → r ≡ not_a_state s → r ≡ reply_to s a
     unfolding reply_to
@@ -30,9 +29,9 @@ module _ (s : FlatState) {f : Bool} (k : f ≡ known s) where
     unknown_put out = sym (ap (λ (b : Bool). put_over (cond b a.put []) out) closed)
 
   -- known, and c is the state that the numbers stand for
-  module _ (t : not f ≡ false) {c : State} (w : c ≡ thaw s) (op : State → Answered) where
+  module _ (t : f ≡ true) {c : State} (w : c ≡ thaw s) (op : State → Answered) where
     opened : known s ≡ true
-    opened = sym k ∙ not-false f t
+    opened = sym k ∙ t
 
     pub known_reply : {x : Answered} {r : Reply} → x ≡ op c → r ≡ reply_of x → r ≡ reply_to s (op (thaw s))
     unfolding reply_to

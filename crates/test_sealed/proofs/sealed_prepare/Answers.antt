@@ -1,14 +1,9 @@
 -- `test_sealed::sealed_prepare` meets its contract: the key is copied where it has 16 bytes, and prepared. Assumes nothing.
 use Rattle.gcm.specs.Key.{prepared}
 use Rattle.octets.proofs.CopyLaws.{over_whole}
-use borrow.Author.Tests.{eq-eqb, ne_eqb}
+use borrow.Author.Tests.{eq-eqb}
 use mathlib.Core.Path.{ap, ◌∙◌}
 use Rattle.test_sealed.proofs.sealed_prepare.Goals as goal
-
-pub returns-then-key-ne16 : goal.returns-then-key-ne16
-returns-then-key-ne16 c =
-    let e = ne_eqb _ _ c.if-key-ne16.true in
-    record { answer = rw e; schedule = rw e; multiples = rw e }
 
 pub returns : goal.returns
 returns c =
