@@ -8,6 +8,7 @@ use super::words::{
     TEXT_LENGTH, WRITES,
 };
 use super::{frame, script};
+
 #[derive(Clone, Copy)]
 pub struct Lengths {
     pub text: usize,

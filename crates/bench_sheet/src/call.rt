@@ -6,20 +6,21 @@ use super::{bytes, made, script, write};
 use bus::Heard;
 use collector::{Collector, Handed};
 use protocol::Vault;
+use std::io;
 use transaction::MIN_TEXT;
 
 // The answer is written.
-fn said(s: &[u8], m: Command, h: Handed) -> Collector {
+fn said(rt: &impl Print, s: &[u8], m: Command, h: Handed) -> io::Result<Collector> {
     let outcome = h.outcome;
-    write::answer(script::name_of(s, m), outcome);
+    write::answer(rt, script::name_of(s, m), outcome)?;
     let c = h.collector;
-    c
+    Ok(c)
 }
 
 // Load, with a key of up to 17 bytes.
-fn load(x: Vault, s: &[u8], m: Command) -> Collector {
+fn load(rt: &impl Print, x: Vault, s: &[u8], m: Command) -> io::Result<Collector> {
     let h = Collector::load(x, bytes::first(b"sixteen of bytes.", m.a as usize));
-    said(s, m, h)
+    said(rt, s, m, h)
 }
 
 // What is put out takes the place of 165s.
@@ -29,32 +30,45 @@ fn cleared(out: &mut [u8]) {
     octets::copy(&CLEAR, out);
 }
 
-fn seal(c: Collector, s: &[u8], m: Command, out: &mut [u8]) -> Collector {
+fn seal(
+    rt: &impl Print,
+    c: Collector,
+    s: &[u8],
+    m: Command,
+    out: &mut [u8],
+) -> io::Result<Collector> {
     cleared(out);
     let n = bytes::within(m.a as usize, out);
     let h = c.seal(&mut out[..n]);
-    said(s, m, h)
+    said(rt, s, m, h)
 }
 
-fn checkpoint(c: Collector, s: &[u8], m: Command, out: &mut [u8]) -> Collector {
+fn checkpoint(
+    rt: &impl Print,
+    c: Collector,
+    s: &[u8],
+    m: Command,
+    out: &mut [u8],
+) -> io::Result<Collector> {
     cleared(out);
     let n = bytes::within(m.a as usize, out);
     let h = c.checkpoint(&mut out[..n]);
-    said(s, m, h)
+    said(rt, s, m, h)
 }
 
 fn recover(
+    rt: &impl Print,
     c: Collector,
     s: &[u8],
     m: Command,
     file: &[u8],
     log: &[u8],
     out: &mut [u8],
-) -> Collector {
+) -> io::Result<Collector> {
     cleared(out);
     let n = bytes::within(m.a as usize, out);
     let h = c.recover(file, log, &mut out[..n]);
-    said(s, m, h)
+    said(rt, s, m, h)
 }
 
 // The vault numbers of a collector whose next record of lane 0 has a number, under an epoch.
@@ -75,37 +89,46 @@ pub fn record(m: Command, text: &[u8], log: &mut [u8], at: usize) {
 }
 
 // The calls that are lent no buffer.
-pub fn plain(c: Collector, x: Vault, s: &[u8], m: Command, text: &[u8], log: &[u8]) -> Collector {
+pub fn plain(
+    rt: &impl Print,
+    c: Collector,
+    x: Vault,
+    s: &[u8],
+    m: Command,
+    text: &[u8],
+    log: &[u8],
+) -> io::Result<Collector> {
     let word = m.word;
     match word {
-        LOAD => load(x, s, m),
-        ACCEPT => said(s, m, c.accept(text, script::byte_of(m.a), m.b)),
-        COMMIT => said(s, m, c.commit(log)),
-        POINT => said(s, m, c.point(m.a)),
-        TRUNCATE => said(s, m, c.truncate(m.a)),
-        _ => c,
+        LOAD => load(rt, x, s, m),
+        ACCEPT => said(rt, s, m, c.accept(text, script::byte_of(m.a), m.b)),
+        COMMIT => said(rt, s, m, c.commit(log)),
+        POINT => said(rt, s, m, c.point(m.a)),
+        TRUNCATE => said(rt, s, m, c.truncate(m.a)),
+        _ => Ok(c),
     }
 }
 
 // Those that are.
 pub fn lent(
+    rt: &impl Print,
     c: Collector,
     s: &[u8],
     m: Command,
     file: &[u8],
     log: &[u8],
     out: &mut [u8],
-) -> Collector {
+) -> io::Result<Collector> {
     if m.word == SEAL {
-        return seal(c, s, m, out);
+        return seal(rt, c, s, m, out);
     }
     if m.word == CHECKPOINT {
-        return checkpoint(c, s, m, out);
+        return checkpoint(rt, c, s, m, out);
     }
     if m.word == RECOVER {
-        return recover(c, s, m, file, log, out);
+        return recover(rt, c, s, m, file, log, out);
     }
-    c
+    Ok(c)
 }
 
 // How many bytes an answer to a frame puts out.
@@ -125,16 +148,29 @@ fn kept(out: &[u8], from: usize) -> bool {
 }
 
 // The reading in a frame, as a transaction.
-fn from_bus(s: &[u8], m: Command, frame: &[u8], out: &mut [u8]) {
+fn from_bus(rt: &impl Print, s: &[u8], m: Command, frame: &[u8], out: &mut [u8]) -> io::Result<()> {
     cleared(out);
     let n = bytes::within(m.a as usize, out);
     let heard = bus::from_bus(frame, (m.b % 65536) as u16, m.c, &mut out[..n]);
-    write::heard(script::name_of(s, m), heard, out, kept(out, put_by(heard)));
+    write::heard(
+        rt,
+        script::name_of(s, m),
+        heard,
+        out,
+        kept(out, put_by(heard)),
+    )
 }
 
 // The call without a collector.
-pub fn alone(s: &[u8], m: Command, frame: &[u8], out: &mut [u8]) {
+pub fn alone(
+    rt: &impl Print,
+    s: &[u8],
+    m: Command,
+    frame: &[u8],
+    out: &mut [u8],
+) -> io::Result<()> {
     if m.word == FROM_BUS {
-        return from_bus(s, m, frame, out);
+        return from_bus(rt, s, m, frame, out);
     }
+    Ok(())
 }

@@ -15,9 +15,10 @@ mod write;
 
 use bytes::Lengths;
 use collector::Collector;
-use libc::STDIN_FILENO;
 use protocol::Vault;
 use script::Command;
+use std::io;
+use std::io::Read;
 use words::{AGAIN, KEEP, RECORD};
 
 // How many commands a script may have.
@@ -98,6 +99,7 @@ fn hands(
 
 // What it calls.
 fn calls(
+    rt: &impl Print,
     c: Collector,
     x: Vault,
     n: Lengths,
@@ -107,22 +109,23 @@ fn calls(
     file: &[u8],
     log: &[u8],
     out: &mut [u8],
-) -> Collector {
+) -> io::Result<Collector> {
     let given = bytes::first(log, n.log);
-    call::alone(s, m, given, out);
-    let d = call::plain(c, x, s, m, bytes::first(text, n.text), given);
-    call::lent(d, s, m, bytes::first(file, n.file), given, out)
+    call::alone(rt, s, m, given, out)?;
+    let d = call::plain(rt, c, x, s, m, bytes::first(text, n.text), given)?;
+    call::lent(rt, d, s, m, bytes::first(file, n.file), given, out)
 }
 
 // What it shows else.
-fn shows(c: Collector, s: &[u8], m: Command, out: &[u8]) {
+fn shows(rt: &impl Print, c: Collector, s: &[u8], m: Command, out: &[u8]) -> io::Result<()> {
     let name = script::name_of(s, m);
-    show::collector(c, name, m);
-    show::other(name, m, out);
+    show::collector(rt, c, name, m)?;
+    show::other(rt, name, m, out)
 }
 
 // A command carried out.
 fn step(
+    rt: &impl Print,
     b: Bench,
     s: &[u8],
     m: Command,
@@ -130,34 +133,43 @@ fn step(
     file: &mut [u8],
     log: &mut [u8],
     out: &mut [u8],
-) -> Bench {
+) -> io::Result<Bench> {
     let mut d = makes(b, m);
     hands(s, m, d.lengths, text, file, log, out);
     let n = bytes::lengths_after(d.lengths, m);
-    let c = calls(d.collector, d.numbers, n, s, m, text, file, log, out);
-    shows(c, s, m, out);
+    let c = calls(rt, d.collector, d.numbers, n, s, m, text, file, log, out)?;
+    shows(rt, c, s, m, out)?;
     d.collector = c;
     d.lengths = n;
-    d
+    Ok(d)
 }
 
-fn run(s: &[u8], text: &mut [u8], file: &mut [u8], log: &mut [u8], out: &mut [u8]) {
+fn run(
+    rt: &impl Print,
+    s: &[u8],
+    text: &mut [u8],
+    file: &mut [u8],
+    log: &mut [u8],
+    out: &mut [u8],
+) -> io::Result<()> {
     let mut b = new_bench();
     let mut at = 0usize;
     for _ in 0..COMMANDS {
         let m = script::command_at(s, at);
-        let d = step(b, s, m, text, file, log, out);
+        let d = step(rt, b, s, m, text, file, log, out)?;
         b = d;
         at = std::num::wrapping_add_usize(m.end, 1);
     }
+    Ok(())
 }
 
-fn main() {
-    let mut script = [0u8; 65536];
-    io::read_full(STDIN_FILENO, &mut script);
+fn main(rt: HostRuntime) -> io::Result<()> {
+    let mut script = Vec::new(rt.alloc());
+    rt.reader().take(65536).read_to_end(&mut script)?;
+    script.resize(65536, 0)?;
     let mut text = [0u8; 512];
     let mut file = [0u8; 6185];
     let mut log = [0u8; 262145];
     let mut out = [0u8; 6185];
-    run(&script, &mut text, &mut file, &mut log, &mut out);
+    run(&rt, &script, &mut text, &mut file, &mut log, &mut out)
 }

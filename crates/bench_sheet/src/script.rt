@@ -6,6 +6,7 @@
 //
 // What begins with # is passed over, to the end of its line. A number that is not there is 0.
 use super::words;
+
 #[derive(Clone, Copy)]
 pub struct Command {
     // The number of its word.

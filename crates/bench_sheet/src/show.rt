@@ -4,6 +4,7 @@ use super::words::{COUNTS, LANE, NONCE, NUMBER, PUT, SBOX, UNKNOWN};
 use super::{script, write};
 use collector::Collector;
 use sealed::record::RECORD_KIND;
+use std::io;
 
 // How many numbers of lane 0 a point counts.
 fn counts(c: Collector, position: u64) -> u64 {
@@ -27,13 +28,13 @@ fn lane(c: Collector, meter: u8) -> u64 {
     e.lane as u64
 }
 
-pub fn collector(c: Collector, name: &[u8], m: Command) {
+pub fn collector(rt: &impl Print, c: Collector, name: &[u8], m: Command) -> io::Result<()> {
     let word = m.word;
     match word {
-        NUMBER => write::counted(name, number(c, script::byte_of(m.a))),
-        LANE => write::counted(name, lane(c, script::byte_of(m.a))),
-        COUNTS => write::counted(name, counts(c, m.a)),
-        _ => (),
+        NUMBER => write::counted(rt, name, number(c, script::byte_of(m.a))),
+        LANE => write::counted(rt, name, lane(c, script::byte_of(m.a))),
+        COUNTS => write::counted(rt, name, counts(c, m.a)),
+        _ => Ok(()),
     }
 }
 
@@ -42,18 +43,18 @@ fn sbox(x: u8) -> u8 {
     t[x as usize]
 }
 
-fn nonce(name: &[u8], lane: u8, number: u64) {
+fn nonce(rt: &impl Print, name: &[u8], lane: u8, number: u64) -> io::Result<()> {
     let n = sealed::nonce_of(RECORD_KIND, lane, number);
-    write::listed(name, &n);
+    write::listed(rt, name, &n)
 }
 
-pub fn other(name: &[u8], m: Command, out: &[u8]) {
+pub fn other(rt: &impl Print, name: &[u8], m: Command, out: &[u8]) -> io::Result<()> {
     let word = m.word;
     match word {
-        PUT => write::counted(name, octets::byte_at(out, m.a as usize) as u64),
-        SBOX => write::coded(name, sbox(script::byte_of(m.a))),
-        NONCE => nonce(name, script::byte_of(m.a), m.b),
-        UNKNOWN => write::text(b"a word that is none of the script's\n"),
-        _ => (),
+        PUT => write::counted(rt, name, octets::byte_at(out, m.a as usize) as u64),
+        SBOX => write::coded(rt, name, sbox(script::byte_of(m.a))),
+        NONCE => nonce(rt, name, script::byte_of(m.a), m.b),
+        UNKNOWN => write::text(rt, b"a word that is none of the script's\n"),
+        _ => Ok(()),
     }
 }

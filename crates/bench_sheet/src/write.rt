@@ -2,148 +2,149 @@
 // put out, or the number on the display and the value beside it.
 use super::script;
 use bus::Heard;
-use libc::STDOUT_FILENO;
 use octets::little;
 use protocol::{Outcome, Refusal, Store};
+use std::io;
 
-pub fn text(s: &[u8]) {
-    io::write_all(STDOUT_FILENO, s);
+pub fn text(rt: &impl Print, s: &[u8]) -> io::Result<()> {
+    rt.write_all(s)
 }
 
-fn number(n: u64) {
-    io::print_decimal(STDOUT_FILENO, n);
+fn number(rt: &impl Print, n: u64) -> io::Result<()> {
+    rt.print(n)
 }
 
 // A store of a lane's number: W, V or R.
-fn lane_store(name: &[u8], lane: u8, value: u64) {
-    text(name);
-    number(lane as u64);
-    text(b" is ");
-    number(value);
+fn lane_store(rt: &impl Print, name: &[u8], lane: u8, value: u64) -> io::Result<()> {
+    text(rt, name)?;
+    number(rt, lane as u64)?;
+    text(rt, b" is ")?;
+    number(rt, value)
 }
 
 // A store of E, S or N, or one at a position.
-fn plain_store(name: &[u8], value: u64) {
-    text(name);
-    number(value);
+fn plain_store(rt: &impl Print, name: &[u8], value: u64) -> io::Result<()> {
+    text(rt, name)?;
+    number(rt, value)
 }
 
-fn store(named: Store) {
+fn store(rt: &impl Print, named: Store) -> io::Result<()> {
     match named {
-        Store::Nothing => text(b"no store"),
-        Store::W { lane, value } => lane_store(b"W of lane ", lane, value),
-        Store::V { lane, value } => lane_store(b"V of lane ", lane, value),
-        Store::R { lane, value } => lane_store(b"R of lane ", lane, value),
-        Store::E { value } => plain_store(b"E is ", value),
-        Store::S { value } => plain_store(b"S is ", value),
-        Store::N { value } => plain_store(b"N is ", value),
-        Store::Record { position } => plain_store(b"record at ", position),
-        Store::File => text(b"checkpoint"),
-        Store::Delete { position } => plain_store(b"delete below ", position),
-        Store::Empty => text(b"empty the log"),
+        Store::Nothing => text(rt, b"no store"),
+        Store::W { lane, value } => lane_store(rt, b"W of lane ", lane, value),
+        Store::V { lane, value } => lane_store(rt, b"V of lane ", lane, value),
+        Store::R { lane, value } => lane_store(rt, b"R of lane ", lane, value),
+        Store::E { value } => plain_store(rt, b"E is ", value),
+        Store::S { value } => plain_store(rt, b"S is ", value),
+        Store::N { value } => plain_store(rt, b"N is ", value),
+        Store::Record { position } => plain_store(rt, b"record at ", position),
+        Store::File => text(rt, b"checkpoint"),
+        Store::Delete { position } => plain_store(rt, b"delete below ", position),
+        Store::Empty => text(rt, b"empty the log"),
     }
 }
 
 // A number of 01's table with a value beside it.
-fn valued(n: u64, value: usize) {
-    number(n);
-    text(b", ");
-    number(value as u64);
+fn valued(rt: &impl Print, n: u64, value: usize) -> io::Result<()> {
+    number(rt, n)?;
+    text(rt, b", ")?;
+    number(rt, value as u64)
 }
 
-fn refusal(why: Refusal) {
+fn refusal(rt: &impl Print, why: Refusal) -> io::Result<()> {
     match why {
-        Refusal::Condition => number(1),
-        Refusal::Numbers => number(2),
-        Refusal::Length { right } => valued(3, right),
-        Refusal::Transaction => number(4),
-        Refusal::Lane => number(5),
-        Refusal::Position => number(6),
-        Refusal::Full => number(7),
-        Refusal::Spent => number(8),
-        Refusal::Closed { offset } => valued(9, offset),
-        Refusal::Epoch { offset } => valued(10, offset),
-        Refusal::Turn { offset } => valued(11, offset),
-        Refusal::Version => number(12),
-        Refusal::Missing { lane } => valued(13, lane as usize),
-        Refusal::Point => number(14),
-        Refusal::Unseen => number(15),
+        Refusal::Condition => number(rt, 1),
+        Refusal::Numbers => number(rt, 2),
+        Refusal::Length { right } => valued(rt, 3, right),
+        Refusal::Transaction => number(rt, 4),
+        Refusal::Lane => number(rt, 5),
+        Refusal::Position => number(rt, 6),
+        Refusal::Full => number(rt, 7),
+        Refusal::Spent => number(rt, 8),
+        Refusal::Closed { offset } => valued(rt, 9, offset),
+        Refusal::Epoch { offset } => valued(rt, 10, offset),
+        Refusal::Turn { offset } => valued(rt, 11, offset),
+        Refusal::Version => number(rt, 12),
+        Refusal::Missing { lane } => valued(rt, 13, lane as usize),
+        Refusal::Point => number(rt, 14),
+        Refusal::Unseen => number(rt, 15),
     }
 }
 
-fn taken(named: Store, len: usize) {
-    text(b"taken, ");
-    store(named);
+fn taken(rt: &impl Print, named: Store, len: usize) -> io::Result<()> {
+    text(rt, b"taken, ")?;
+    store(rt, named)?;
     if 0 < len {
-        text(b", ");
-        number(len as u64);
-        text(b" bytes");
+        text(rt, b", ")?;
+        number(rt, len as u64)?;
+        text(rt, b" bytes")?;
     }
+    Ok(())
 }
 
 // The line of a call. A call without a name has none.
-pub fn answer(name: &[u8], o: Outcome) {
+pub fn answer(rt: &impl Print, name: &[u8], o: Outcome) -> io::Result<()> {
     if name.len() == 0 {
-        return;
+        return Ok(());
     }
-    text(name);
-    text(b": ");
+    text(rt, name)?;
+    text(rt, b": ")?;
     match o {
-        Outcome::Taken { store: named, len } => taken(named, len),
-        Outcome::Refused { why } => refusal(why),
-    }
-    text(b"\n");
+        Outcome::Taken { store: named, len } => taken(rt, named, len),
+        Outcome::Refused { why } => refusal(rt, why),
+    }?;
+    text(rt, b"\n")
 }
 
 // A reading, of its two's complement.
-fn signed(bits: u32) {
+fn signed(rt: &impl Print, bits: u32) -> io::Result<()> {
     if bits < 0x8000_0000 {
-        return number(bits as u64);
+        return number(rt, bits as u64);
     }
-    text(b"-");
-    number(std::num::wrapping_sub_u32(0, bits) as u64);
+    text(rt, b"-")?;
+    number(rt, std::num::wrapping_sub_u32(0, bits) as u64)
 }
 
 // The transaction of one write at the start of out, in its layout's order.
-fn transaction(out: &[u8]) {
-    text(b"taken, stamp ");
-    number(little::u64_in(out));
-    text(b", meter ");
-    number(little::u16_in(script::part(out, 8, 10)) as u64);
-    text(b", code ");
-    number(octets::byte_at(out, 10) as u64);
-    text(b", ");
-    number(octets::byte_at(out, 11) as u64);
-    text(b", reading ");
-    signed(little::u32_in(script::part(out, 12, 16)));
+fn transaction(rt: &impl Print, out: &[u8]) -> io::Result<()> {
+    text(rt, b"taken, stamp ")?;
+    number(rt, little::u64_in(out))?;
+    text(rt, b", meter ")?;
+    number(rt, little::u16_in(script::part(out, 8, 10)) as u64)?;
+    text(rt, b", code ")?;
+    number(rt, octets::byte_at(out, 10) as u64)?;
+    text(rt, b", ")?;
+    number(rt, octets::byte_at(out, 11) as u64)?;
+    text(rt, b", reading ")?;
+    signed(rt, little::u32_in(script::part(out, 12, 16)))
 }
 
 // The line of a frame, and whether all that was not put out is as it was.
-pub fn heard(name: &[u8], h: Heard, out: &[u8], kept: bool) {
+pub fn heard(rt: &impl Print, name: &[u8], h: Heard, out: &[u8], kept: bool) -> io::Result<()> {
     if name.len() == 0 {
-        return;
+        return Ok(());
     }
-    text(name);
-    text(b": ");
+    text(rt, name)?;
+    text(rt, b": ")?;
     match h {
-        Heard::Taken => transaction(out),
-        Heard::Short(right) => valued(3, right),
-        Heard::Meter => number(4),
-        Heard::Broken => number(16),
-        Heard::Unusable => number(17),
-    }
+        Heard::Taken => transaction(rt, out),
+        Heard::Short(right) => valued(rt, 3, right),
+        Heard::Meter => number(rt, 4),
+        Heard::Broken => number(rt, 16),
+        Heard::Unusable => number(rt, 17),
+    }?;
     if kept {
-        return text(b", the rest kept\n");
+        return text(rt, b", the rest kept\n");
     }
-    text(b", the rest changed\n");
+    text(rt, b", the rest changed\n")
 }
 
 // A line with a number.
-pub fn counted(name: &[u8], n: u64) {
-    text(name);
-    text(b": ");
-    number(n);
-    text(b"\n");
+pub fn counted(rt: &impl Print, name: &[u8], n: u64) -> io::Result<()> {
+    text(rt, name)?;
+    text(rt, b": ")?;
+    number(rt, n)?;
+    text(rt, b"\n")
 }
 
 // A digit of a hexadecimal number.
@@ -155,24 +156,24 @@ fn digit(n: u8) -> u8 {
 }
 
 // A line with a byte in hexadecimal.
-pub fn coded(name: &[u8], x: u8) {
-    text(name);
-    text(b": ");
-    text(&[digit(x / 16), digit(x % 16), b'\n']);
+pub fn coded(rt: &impl Print, name: &[u8], x: u8) -> io::Result<()> {
+    text(rt, name)?;
+    text(rt, b": ")?;
+    text(rt, &[digit(x / 16), digit(x % 16), b'\n'])
 }
 
 // A byte of several, a space before it.
-fn byte(x: u8) {
-    text(b" ");
-    number(x as u64);
+fn byte(rt: &impl Print, x: u8) -> io::Result<()> {
+    text(rt, b" ")?;
+    number(rt, x as u64)
 }
 
 // A line with bytes in decimal.
-pub fn listed(name: &[u8], s: &[u8]) {
-    text(name);
-    text(b":");
+pub fn listed(rt: &impl Print, name: &[u8], s: &[u8]) -> io::Result<()> {
+    text(rt, name)?;
+    text(rt, b":")?;
     for i in 0..s.len() {
-        byte(s[i]);
+        byte(rt, s[i])?;
     }
-    text(b"\n");
+    text(rt, b"\n")
 }

@@ -7,32 +7,35 @@
 #![tactic(auto)]
 
 use heat::TABLES_LEN;
-use libc::{STDIN_FILENO, STDOUT_FILENO};
+use std::io;
+use std::io::Read;
 
 const KEPT: usize = TABLES_LEN + 1;
 
 // Reads once, drops what came, and answers whether there may be more.
-fn drop_some() -> bool {
-    let mut buf = io::large_buffer();
-    let got = libc::read(STDIN_FILENO, &mut buf);
-    0 < got
+fn drop_some(from: &mut impl Read) -> io::Result<bool> {
+    let mut buf = [0u8; 65536];
+    let got = from.read(&mut buf)?;
+    Ok(0 < got)
 }
 
 // Reads to the end of the input. A proved loop has to end, and nothing says that an input does: so the loop counts its turns
 // down, from a number that no run uses up.
-fn drop_rest() {
+fn drop_rest(from: &mut impl Read) -> io::Result<()> {
     let mut turns = u64::MAX;
-    while turns > 0 && drop_some() {
+    while turns > 0 && drop_some(from)? {
         turns -= 1;
     }
+    Ok(())
 }
 
-fn main() {
-    let mut input = [0u8; KEPT];
-    let n = io::read_full(STDIN_FILENO, &mut input);
-    drop_rest();
-    let p = heat::print(&input[..n]);
+fn main(rt: HostRuntime) -> io::Result<()> {
+    let mut from = rt.reader();
+    let mut input = Vec::new(rt.alloc());
+    from.by_ref().take(KEPT as u64).read_to_end(&mut input)?;
+    drop_rest(&mut from)?;
+    let p = heat::print(&input);
     let len = p.len;
     let bytes = p.bytes;
-    io::write_all(STDOUT_FILENO, &bytes[..len]);
+    rt.write_all(&bytes[..len])
 }

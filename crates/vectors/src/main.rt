@@ -12,7 +12,10 @@ ghost use Rattle.std.specs.Prelude.{◌≤◌};
 ghost use Rattle.vectors.specs.Tally.{Single};
 
 use gcm::{Opening, Sealing};
-use libc::STDOUT_FILENO;
+use std::fs::File;
+use std::io;
+use std::io::Read;
+use std::rt::Files;
 
 // The three sets of vectors.
 #[derive(Clone, Copy)]
@@ -217,41 +220,41 @@ fn counted(set: Set, s: &[u8]) -> Tally {
     }
 }
 
-// The tally of a file.
-fn run(set: Set, path: &[u8]) -> Tally {
-    let mut buf = io::large_buffer();
-    let fd = os::open_read(path);
-    if fd < 0 {
-        os::fail(path);
-        return Tally {
-            lines: 0,
-            agreed: 0,
-            refused: 0,
-        };
-    }
-    let n = io::read_full(fd, &mut buf);
-    libc::close(fd);
-    counted(set, &buf[..n])
+// The tally of a file, of its first 65536 bytes. Where it cannot be opened, standard error says why, and it has no lines.
+fn run<R: Files + Alloc + Eprint>(rt: &R, set: Set, path: &str) -> io::Result<Tally> {
+    let file = match File::open(rt, path) {
+        Ok(file) => file,
+        Err(e) => {
+            eprintln!(rt; "{path}: {e}")?;
+            return Ok(Tally {
+                lines: 0,
+                agreed: 0,
+                refused: 0,
+            });
+        }
+    };
+    let mut text = Vec::new(rt.alloc());
+    file.take(65536).read_to_end(&mut text)?;
+    Ok(counted(set, &text))
 }
 
 // Writes what a set is called, and how many of its vectors agree.
-fn report(name: &[u8], t: Tally) {
-    io::write_all(STDOUT_FILENO, name);
-    io::write_all(STDOUT_FILENO, b": ");
-    io::print_decimal(STDOUT_FILENO, t.agreed);
-    io::write_all(STDOUT_FILENO, b" of ");
-    io::print_decimal(STDOUT_FILENO, t.lines);
+fn report(rt: &impl Print, name: &str, t: Tally) -> io::Result<()> {
+    print!(rt; "{name}: {} of {}", t.agreed, t.lines)
 }
 
-fn main() {
-    report(b"AES known answers", run(Set::Aes, b"aes-128-ecb.txt"));
+fn main(rt: HostRuntime) -> io::Result<()> {
     report(
-        b"\nGCM encryptions",
-        run(Set::Encrypt, b"gcm-encrypt-128.txt"),
-    );
-    let d = run(Set::Decrypt, b"gcm-decrypt-128.txt");
-    report(b"\nGCM decryptions", d);
-    io::write_all(STDOUT_FILENO, b", ");
-    io::print_decimal(STDOUT_FILENO, d.refused);
-    io::write_all(STDOUT_FILENO, b" refused\n");
+        &rt,
+        "AES known answers",
+        run(&rt, Set::Aes, "aes-128-ecb.txt")?,
+    )?;
+    report(
+        &rt,
+        "\nGCM encryptions",
+        run(&rt, Set::Encrypt, "gcm-encrypt-128.txt")?,
+    )?;
+    let d = run(&rt, Set::Decrypt, "gcm-decrypt-128.txt")?;
+    report(&rt, "\nGCM decryptions", d)?;
+    println!(rt; ", {} refused", d.refused)
 }

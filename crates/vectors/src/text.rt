@@ -2,7 +2,6 @@
 //
 // Nothing here has a `requires`: past the end of a text there is an empty field.
 ghost use Rattle.std.specs.Prelude.{◌≡◌, ◌≤◌, ◌<◌, length, take};
-ghost use Rattle.io.specs.Counts.{IsPrefixLen};
 ghost use Rattle.vectors.specs.Hex.{digit_value, bytes_to};
 
 // The bytes that a field writes: how many there are, and whether the field is well formed.
@@ -18,6 +17,7 @@ pub struct Sixteen {
     pub bytes: [u8; 16],
     pub good: bool,
 }
+
 #[derive(Clone, Copy)]
 pub struct Twelve {
     pub bytes: [u8; 12],
@@ -83,7 +83,7 @@ pub fn field(line: &[u8], k: usize) -> &[u8] {
 // Puts the bytes that a field writes at the start of out: two digits a byte, or "-" for none. A field is not well formed
 // where it has another byte or half a byte, is empty, or does not fit: it then writes none.
 pub fn decode(s: &[u8], out: &mut [u8]) -> Bytes
-    ensures counts { IsPrefixLen result.len out.new }
+    ensures counts { (result.len ≤ length out.new) × (result.len ≡ length (take result.len out.new)) }
     ensures bytes { take result.len out.new ≡ bytes_to s.now result.len }
 {
     if (s.len() == 1) & (octets::byte_at(s, 0) == b'-') {

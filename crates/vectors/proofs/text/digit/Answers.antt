@@ -1,0 +1,25 @@
+-- `vectors::text::digit` meets its contract: each answer is the definition's, by the tests that lead to it.
+-- Assumes nothing.
+use borrow.Author.Tests.{lt-ltb, le-ltb, le-leb, lt-leb}
+use Rattle.vectors.specs.Hex.{digit_value}
+use Rattle.vectors.proofs.text.digit.Goals as goal
+
+pub returns-then-c-lt48 : goal.returns-then-c-lt48
+unfolding digit_value
+returns-then-c-lt48 c = simp (lt-ltb _ _ c.if-c-lt48.true)
+
+pub returns-then-c-le57 : goal.returns-then-c-le57
+unfolding digit_value
+returns-then-c-le57 c = simp (le-ltb _ _ c.if-c-lt48.false, le-leb _ _ c.if-c-le57.true)
+
+pub returns-then-c-lt97 : goal.returns-then-c-lt97
+unfolding digit_value
+returns-then-c-lt97 c = simp (le-ltb _ _ c.if-c-lt48.false, lt-leb _ _ c.if-c-le57.false, lt-ltb _ _ c.if-c-lt97.true)
+
+pub returns-then-c-le102 : goal.returns-then-c-le102
+unfolding digit_value
+returns-then-c-le102 c = simp (le-ltb _ _ c.if-c-lt48.false, lt-leb _ _ c.if-c-le57.false, le-ltb _ _ c.if-c-lt97.false, le-leb _ _ c.if-c-le102.true)
+
+pub returns : goal.returns
+unfolding digit_value
+returns c = simp (le-ltb _ _ c.if-c-lt48.false, lt-leb _ _ c.if-c-le57.false, le-ltb _ _ c.if-c-lt97.false, lt-leb _ _ c.if-c-le102.false)
