@@ -29,6 +29,7 @@ use Rattle.bus.specs.Records.{filler, wanted_dif, data_len, field_len, dif_of, v
 use Rattle.bus.specs.Claim.{digits_of, packed, bcd, EightDigits, Written, digits, minus_zero, Field, Unwanted, Before, nothing, filler_then, record_then}
 use Rattle.bus.proofs.MediumLaws.{wanted_size}
 use Rattle.bus.proofs.FieldLaws.{cond_by, field_end, field_some}
+use Rattle.bus.proofs.LookLaws.{wanted_has}
 use Rattle.bus.proofs.FrameLaws.{places}
 use Rattle.bus.proofs.DigitLaws.{eight}
 use Rattle.bus.proofs.TakenLaws.{decimal_lt}
@@ -159,13 +160,14 @@ module _ (unit : ℕ) (s : List ℕ) where
     parts = (field_some s, field_some (drop d s), whole, length-drop d s, length-drop v (drop d s) ∙ ap (λ (n : ℕ). n - v) (length-drop d s))
 
     view_take : wanted unit s ≡ true → View unit s M.Take
-    unfolding View wanted
+    unfolding View
     view_take e =
         let p1 = parts.0 in
         let p2 = parts.1 in
         let p3 = parts.2 in
-        let dif = eqb-true (dif_of s) wanted_dif (and_left (eqb (dif_of s) wanted_dif) (eqb (vif_of s) unit) e) in
-        let vif = eqb-true (vif_of s) unit (and_right (eqb (dif_of s) wanted_dif) (eqb (vif_of s) unit) e) in
+        let has = wanted_has unit s e in
+        let dif = has.0 in
+        let vif = has.1 in
         let one : field_len s ≡ 1 = field_end s 0 (omega arith) (omega (arith, dif)) in
         let four : 4 ≡ size = ap size_in (sym wanted_size ∙ ap data_len (sym dif) ∙ sized) in
         (omega arith, (dif, ap (at s) (sym one) ∙ vif))

@@ -7,17 +7,25 @@ use mathlib.Core.List.{List}
 use native.Mathlib.Omega.{arith}
 use lib.Dec.{ltb, eqb}
 use lib.ListN.{length, drop}
-use borrow.Author.Tests.{eq-eqb, ne_eqb, lt-ltb, le-ltb, ltb-false, eqb-false}
+use borrow.Author.Tests.{eq-eqb, ne_eqb, lt-ltb, le-ltb, ltb-false, eqb-true, eqb-false}
 use Rattle.octets.specs.Lists.{at}
 use Rattle.bus.specs.declared.DataLen.{DataLen}
 use Rattle.bus.specs.declared.DataLen.TheVariants as D
 use Rattle.bus.specs.declared.Met.{Met}
 use Rattle.bus.specs.declared.Met.TheVariants as M
-use Rattle.octets.proofs.BoolLaws.{or_right, or_true}
+use Rattle.octets.proofs.BoolLaws.{and_left, and_right, or_right, or_true}
 use Rattle.bus.specs.Records.{filler, wanted_dif, data_len, field_len, dif_of, vif_of, unusable_vif, record_len, wanted, look_record, look, data_place}
 use Rattle.bus.proofs.FieldLaws.{cond_by, field_some}
 
 module _ (unit : ℕ) (s : List ℕ) where
+  -- what is wanted has the DIF that is taken, and the unit's VIF
+  pub wanted_has : wanted unit s ≡ true → (dif_of s ≡ wanted_dif) × (vif_of s ≡ unit)
+  unfolding wanted
+  wanted_has e =
+      let dif = eqb-true (dif_of s) wanted_dif (and_left (eqb (dif_of s) wanted_dif) (eqb (vif_of s) unit) e) in
+      let vif = eqb-true (vif_of s) unit (and_right (eqb (dif_of s) wanted_dif) (eqb (vif_of s) unit) e) in
+      (dif, vif)
+
   -- nothing is left
   pub look_none : length s ≡ 0 → look unit s ≡ M.End
   unfolding look

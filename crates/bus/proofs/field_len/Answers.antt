@@ -1,10 +1,6 @@
 use Rattle.bus.proofs.FieldLaws.{field_end, field_more, field_past}
 use native.Mathlib.Omega.{arith}
-use Prim.Native.Nat.{◌-◌}
 use Rattle.bus.proofs.field_len.Goals as goal
-
-pub loop-i-init : goal.loop-i-init
-loop-i-init c = (omega arith, omega arith)
 
 pub returns-then-s-i-lt128 : goal.returns-then-s-i-lt128
 returns-then-s-i-lt128 c =

@@ -1,7 +1,6 @@
 -- `bus::unbroken` meets its contract: too few bytes for L cannot be right, and of L + 6 the tests are the definition's. Assumes nothing.
 use Rattle.bus.specs.Frame.{sum, reply_c}
 use Rattle.bus.proofs.FrameLaws.{unbroken_is, unbroken_long, unbroken_short, bytes_part}
-use borrow.Author.Rules.{rules}
 use native.Mathlib.Omega.{arith}
 use mathlib.Core.List.{List}
 use mathlib.Core.Path.{sym, ap, ◌∙◌}
@@ -10,15 +9,6 @@ use Rattle.bus.proofs.unbroken.Goals as goal
 
 pub returns-then-n : goal.returns-then-n
 returns-then-n c = sym (unbroken_short c.args.f.now c.if-n.true)
-
-pub overflow_cast-len : goal.overflow_cast-len
-overflow_cast-len c = let b = c.shared_slice_known-2-1.given 1 in search rules
-
-pub overflow_add-len : goal.overflow_add-len
-overflow_add-len c = let b = c.shared_slice_known-2-1.given 1 in search rules
-
-pub overflow_add-len-2 : goal.overflow_add-len-2
-overflow_add-len-2 c = let b = c.shared_slice_known-2-1.given 1 in search rules
 
 pub returns-then-n-len : goal.returns-then-n-len
 returns-then-n-len c = sym (unbroken_long c.args.f.now c.if-n-len.true)

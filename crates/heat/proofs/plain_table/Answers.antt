@@ -10,14 +10,14 @@ use lib.ListN.{length}
 use borrow.Author.Rules.{rules}
 use borrow.Author.Tests.{lt-ltb, le-ltb}
 use native.Mathlib.Omega.{arith}
-use mathlib.Core.Path.{◌≡◌, refl, ◌∙◌}
+use mathlib.Core.Path.{◌≡◌, ◌∙◌}
 use Rattle.heat.proofs.plain_table.Goals as goal
 
 pub returns-then-out-lt-TABLE_LEN : goal.returns-then-out-lt-TABLE_LEN
 unfolding plain_by plain_table turn_down
-returns-then-out-lt-TABLE_LEN c = let n = length c.args.out.now in
-    let all = rw (lt-ltb n table_len c.if-out-lt-TABLE_LEN.true) (refl, refl) in
-    record { answer = all.0; bytes = all.1 }
+returns-then-out-lt-TABLE_LEN c =
+    let e = lt-ltb (length c.args.out.now) table_len c.if-out-lt-TABLE_LEN.true in
+    record { answer = rw e; bytes = rw e }
 
 pub returns : goal.returns
 unfolding plain_by plain_table turn_down
@@ -26,5 +26,5 @@ returns c =
     let room = c.if-out-lt-TABLE_LEN.false in
     let long : length a.t.entries ≡ meters = search (rules, length_of_map) in
     let text = length_table a.t long in
-    let all = rw (le-ltb (length a.out.now) table_len room) (refl, c.put_text.ensures ∙ over_room (table_text a.t) a.out.now (omega arith)) in
-    record { answer = all.0; bytes = all.1 }
+    let e = le-ltb (length a.out.now) table_len room in
+    record { answer = rw e; bytes = rw e (c.put_text.ensures ∙ over_room (table_text a.t) a.out.now (omega arith)) }

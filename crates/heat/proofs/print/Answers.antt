@@ -7,36 +7,43 @@ use lib.ListN.{replicate}
 use mathlib.Core.Path.{ap}
 use Rattle.heat.proofs.print.Goals as goal
 
-returns-2 : tie.Need-returns-2
-unfolding said_by refused_line numeral numeral_within
-returns-2 c =
-    let i = c.before.before.before.before.before.before.before.before.args.input.now in
-    as_printed i (replicate text_max 0) (printed_refused i (ap said_by c.before.before.enum_told.given.1) c.before.before.before.before.before.heat-split.ensures.0) c.printed-line.ensures.0 c.printed-line.ensures.1
-
-returns-3 : tie.Need-returns-3
-unfolding said_by refused_line numeral numeral_within
-returns-3 c =
-    let i = c.before.before.before.before.before.before.before.before.args.input.now in
-    as_printed i (replicate text_max 0) (printed_refused i (ap said_by c.before.before.enum-told2.given.1) c.before.before.before.before.before.heat-split.ensures.0) c.printed-line2.ensures.0 c.printed-line2.ensures.1
-
-returns-4 : tie.Need-returns-4
-unfolding said_by refused_line numeral numeral_within
-returns-4 c =
-    let i = c.before.before.before.before.before.before.before.before.args.input.now in
-    as_printed i (replicate text_max 0) (printed_refused i (ap said_by c.before.before.enum-told3.given.1) c.before.before.before.before.before.heat-split.ensures.0) c.printed-line3.ensures.0 c.printed-line3.ensures.1
-
-returns-5 : tie.Need-returns-5
-unfolding said_by refused_line numeral numeral_within
-returns-5 c =
-    let i = c.before.before.before.before.before.before.before.before.args.input.now in
-    as_printed i (replicate text_max 0) (printed_refused i (ap said_by c.before.before.enum-told4.given.1) c.before.before.before.before.before.heat-split.ensures.0) c.printed-line4.ensures.0 c.printed-line4.ensures.1
-
-pub returns-in-NothingUsed : goal.returns-in-NothingUsed
+pub returns-in-Written : goal.returns-in-Written
 unfolding said_by
-returns-in-NothingUsed c =
-    let g = c.s.given in
+returns-in-Written c =
     let t = c.heat_split-s in
     let i = c.args.input.now in
-    let p = printed_text i (ap said_by g.1) t.ensures.answer in
+    let p = printed_text i (ap said_by c.in-Written.is) t.ensures.answer in
     let all = as_printed i (replicate text_max 0) p.0 t.ensures.bytes p.1 in
+    record { bytes = all.0; len = all.1 }
+
+pub returns-in-Short : goal.returns-in-Short
+unfolding said_by refused_line numeral numeral_within
+returns-in-Short c =
+    let i = c.args.input.now in
+    let said = printed_refused i (ap said_by c.in-Short.is) c.heat_split-s.ensures.answer in
+    let all = as_printed i (replicate text_max 0) said c.printed_line.ensures.bytes c.printed_line.ensures.len in
+    record { bytes = all.0; len = all.1 }
+
+pub returns-in-NoTables : goal.returns-in-NoTables
+unfolding said_by refused_line numeral numeral_within
+returns-in-NoTables c =
+    let i = c.args.input.now in
+    let said = printed_refused i (ap said_by c.in-NoTables.is) c.heat_split-s.ensures.answer in
+    let all = as_printed i (replicate text_max 0) said c.printed_line-in-NoTables.ensures.bytes c.printed_line-in-NoTables.ensures.len in
+    record { bytes = all.0; len = all.1 }
+
+pub returns-in-CodeChanged : goal.returns-in-CodeChanged
+unfolding said_by refused_line numeral numeral_within
+returns-in-CodeChanged c =
+    let i = c.args.input.now in
+    let said = printed_refused i (ap said_by c.in-CodeChanged.is) c.heat_split-s.ensures.answer in
+    let all = as_printed i (replicate text_max 0) said c.printed_line-in-CodeChanged.ensures.bytes c.printed_line-in-CodeChanged.ensures.len in
+    record { bytes = all.0; len = all.1 }
+
+pub returns-in-NothingUsed : goal.returns-in-NothingUsed
+unfolding said_by refused_line numeral numeral_within
+returns-in-NothingUsed c =
+    let i = c.args.input.now in
+    let said = printed_refused i (ap said_by c.in-NothingUsed.is) c.heat_split-s.ensures.answer in
+    let all = as_printed i (replicate text_max 0) said c.printed_line-in-NothingUsed.ensures.bytes c.printed_line-in-NothingUsed.ensures.len in
     record { bytes = all.0; len = all.1 }

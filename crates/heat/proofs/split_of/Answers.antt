@@ -22,7 +22,7 @@ pub returns-then-total-eq0 : goal.returns-then-total-eq0
 returns-then-total-eq0 c =
     let a = c.args in
     let u = c.uses_in-u in
-    let all = told_so a.out.now (answer_nothing (table_from a.start.now) (table_from a.end.now) (length a.out.now) (sym u.ensures.changed ∙ c.if-u.false) (sym u.ensures.total.0 ∙ c.if-total-eq0.true)) in
+    let all = told_so a.out.now (answer_nothing (table_from a.start.now) (table_from a.end.now) (length a.out.now) (sym u.ensures.changed ∙ c.if-u.false) (sym u.ensures.total ∙ c.if-total-eq0.true)) in
     record { answer = all.0; bytes = all.1 }
 
 pub shares-shares-requires : goal.shares-shares-requires
@@ -31,9 +31,9 @@ shares-shares-requires c =
     let u = c.uses_in-u in
     let s = table_from a.start.now in
     let e = table_from a.end.now in
-    let el = u.ensures.total.1.0 in
-    let eg = u.ensures.total.1.1.0 in
-    (ap length el, ap length eg, omega arith, total_found s e el eg u.ensures.total.0, small_found s e el eg u.ensures.total.1.1.1)
+    let el = u.ensures.listed in
+    let eg = u.ensures.gains in
+    (ap length el, ap length eg, omega arith, total_found s e el eg u.ensures.total, small_found s e el eg u.ensures.small)
 
 pub put_split-n-requires : goal.put_split-n-requires
 put_split-n-requires c =
@@ -41,20 +41,15 @@ put_split-n-requires c =
     let p = c.requires in
     let u = c.uses_in-u in
     let h = c.shares-shares in
-    (p.0, p.1, ap length h.ensures, omega arith, shares_found (table_from a.start.now) (table_from a.end.now) u.ensures.total.1.0 u.ensures.total.1.1.0 h.ensures)
+    (p.0, p.1, ap length h.ensures, omega arith, shares_found (table_from a.start.now) (table_from a.end.now) u.ensures.listed u.ensures.gains h.ensures)
 
 pub returns-then-out-n : goal.returns-then-out-n
 returns-then-out-n c =
     let a = c.args in
     let u = c.uses_in-u in
     let put = c.put_split-n in
-    let all = told_so a.out.now (answer_short (table_from a.start.now) (table_from a.end.now) (length a.out.now) (sym u.ensures.changed ∙ c.if-u.false) (λ z. c.if-total-eq0.false (u.ensures.total.0 ∙ z)) put.ensures.len.0 c.if-out-n.true) in
+    let all = told_so a.out.now (answer_short (table_from a.start.now) (table_from a.end.now) (length a.out.now) (sym u.ensures.changed ∙ c.if-u.false) (λ z. c.if-total-eq0.false (u.ensures.total ∙ z)) put.ensures.len.0 c.if-out-n.true) in
     record { answer = all.0; bytes = all.1 }
-
-pub slice_bounds-copy-end : goal.slice_bounds-copy-end
-slice_bounds-copy-end c =
-    let put = c.put_split-n in
-    put.ensures.len.0 ∙ sym (ap length (text_there _ _ put.ensures.bytes put.ensures.len.0 put.ensures.len.1))
 
 pub returns : goal.returns
 returns c =
@@ -63,7 +58,7 @@ returns c =
     let put = c.put_split-n in
     let s = table_from a.start.now in
     let e = table_from a.end.now in
-    let told = told_so a.out.now (answer_written s e (length a.out.now) (sym u.ensures.changed ∙ c.if-u.false) (λ z. c.if-total-eq0.false (u.ensures.total.0 ∙ z)) put.ensures.len.0 c.if-out-n.false) in
+    let told = told_so a.out.now (answer_written s e (length a.out.now) (sym u.ensures.changed ∙ c.if-u.false) (λ z. c.if-total-eq0.false (u.ensures.total ∙ z)) put.ensures.len.0 c.if-out-n.false) in
     let room = c.if-out-n.false in
     let n = put.ensures.len.0 in
     record { answer = told.0; bytes = c.copy.ensures ∙ ap (λ (x : List ℕ). over x a.out.now) (text_there (split_text s e) _ put.ensures.bytes n put.ensures.len.1) ∙ over_room (split_text s e) a.out.now (omega arith) ∙ told.1 }

@@ -1,18 +1,11 @@
 use Rattle.heat.proofs.NumeralLaws.{length_digit, length_more, digit_turn, digit_last}
 use lib.ListN.{length-set}
-use borrow.Author.Rules.{rules}
 use native.Mathlib.Omega.{arith}
-use mathlib.Core.Path.{refl, ◌∙◌}
+use mathlib.Core.Path.{◌∙◌}
 use Rattle.heat.proofs.numerals.digits_before.Goals as goal
-
-pub loop-left-init : goal.loop-left-init
-loop-left-init c = (omega arith, omega arith, search rules, refl, refl)
 
 pub overflow_sub-from : goal.overflow_sub-from
 overflow_sub-from c = let n = length_more c.loop-left.left c.loop-left-test.true in omega arith
-
-pub bounds-bytes-from : goal.bounds-bytes-from
-bounds-bytes-from c = let n = length_more c.loop-left.left c.loop-left-test.true in omega arith
 
 pub loop-left-preserved : goal.loop-left-preserved
 loop-left-preserved c =
@@ -22,9 +15,6 @@ loop-left-preserved c =
 
 pub overflow_sub-from-2 : goal.overflow_sub-from-2
 overflow_sub-from-2 c = let n = length_digit c.loop-left.left c.loop-left-test.false in omega arith
-
-pub bounds-bytes-from-2 : goal.bounds-bytes-from-2
-bounds-bytes-from-2 c = let n = length_digit c.loop-left.left c.loop-left-test.false in omega arith
 
 pub returns : goal.returns
 returns c =

@@ -9,7 +9,7 @@ use Prim.Native.Nat.{◌+◌, ◌≤◌}
 use Rattle.heat.proofs.numerals.digits_before.Given as goal
 
 abbrev pub invariant-loop-left : goal.invariant-loop-left
-invariant-loop-left l =     (length (numeral l.left) ≤ l.from) × (l.from ≤ line_max) × (length l.bytes ≡ line_max) × (numeral l.left ++ drop l.from l.bytes ≡ numeral l.n ++ drop l.initial.from l.initial.bytes) × (l.from + length (numeral l.n) ≡ l.initial.from + length (numeral l.left))
+invariant-loop-left l = (length (numeral l.left) ≤ l.from) × (l.from ≤ line_max) × (length l.bytes ≡ line_max) × (numeral l.left ++ drop l.from l.bytes ≡ numeral l.n ++ drop l.initial.from l.initial.bytes) × (l.from + length (numeral l.n) ≡ l.initial.from + length (numeral l.left))
 
 abbrev pub decreases-loop-left : goal.decreases-loop-left
 decreases-loop-left l = l.left

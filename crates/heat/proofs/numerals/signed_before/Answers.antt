@@ -1,14 +1,11 @@
 -- `heat::numerals::signed_before` meets its contract: a negative number's size is one more than -1 less it, and a minus stands before it. Assumes nothing.
-use Rattle.heat.proofs.SignedLaws.{plain_cast, plain_numeral, turn_fits, turn_cast, size_fits, size_numeral}
+use Rattle.heat.proofs.SignedLaws.{plain_numeral, size_numeral}
 use lib.ListN.{length, drop}
 use mathlib.Core.List.{List, ◌∷◌, ◌++◌}
 use native.Mathlib.Omega.{arith}
 use mathlib.Core.Path.{ap, ◌∙◌}
 use Prim.Native.Nat.{ℕ}
 use Rattle.heat.proofs.numerals.signed_before.Goals as goal
-
-pub overflow_cast-z : goal.overflow_cast-z
-overflow_cast-z c = plain_cast c.args.z c.ranges.z c.if-z-ge0.true
 
 pub digits_before-requires : goal.digits_before-requires
 digits_before-requires c = let n = ap length (plain_numeral c.args.z c.ranges.z c.if-z-ge0.true) in (omega arith, omega arith)
@@ -19,15 +16,6 @@ returns-then-z-ge0 c =
     let e = plain_numeral c.args.z c.ranges.z c.if-z-ge0.true in
     let n = ap length e in
     record { text = c.digits_before.ensures.text ∙ ap (λ (s : List ℕ). s ++ drop l.from l.bytes) e; from = omega arith }
-
-pub overflow_sub-below : goal.overflow_sub-below
-overflow_sub-below c = turn_fits c.args.z c.ranges.z c.if-z-ge0.false
-
-pub overflow_cast-size : goal.overflow_cast-size
-overflow_cast-size c = turn_cast c.args.z c.ranges.z c.if-z-ge0.false
-
-pub overflow_add-size : goal.overflow_add-size
-overflow_add-size c = size_fits c.args.z c.ranges.z c.if-z-ge0.false
 
 pub digits_before-digits-requires : goal.digits_before-digits-requires
 digits_before-digits-requires c = let n = ap length (size_numeral c.args.z c.ranges.z c.if-z-ge0.false) in (omega arith, omega arith)

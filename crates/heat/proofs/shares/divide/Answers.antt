@@ -8,29 +8,12 @@ use lib.ListN.{length-set}
 use native.Mathlib.Nat.{div-le_self}
 use native.Mathlib.Omega.{arith}
 use mathlib.Core.Path.{◌≡◌, refl, ap, ◌∙◌}
-use Prim.Native.Nat.{ℕ, ◌+◌, ◌-◌, ◌*◌, ◌/◌, ◌%◌}
+use Prim.Native.Nat.{ℕ, ◌+◌, ◌*◌, ◌/◌, ◌%◌}
 use Rattle.heat.proofs.shares.divide.Goals as goal
 
 pub loop-m-init : goal.loop-m-init
 unfolding sum_below
 loop-m-init c = (omega arith, refl, refl, refl, omega arith)
-
-pub overflow_mul-x : goal.overflow_mul-x
-overflow_mul-x c =
-    let l = c.loop-m in
-    let g = c.requires.2 l.m (omega arith) in
-    record { fits = omega arith }
-
-pub overflow_add-given : goal.overflow_add-given
-overflow_add-given c =
-    let l = c.loop-m in
-    let a = c.args in
-    let x = at a.gains.now l.m * house in
-    let g = c.requires.2 l.m (omega arith) in
-    let d = div-le_self x a.total in
-    let low = l.invariant.0 in
-    let bound = l.invariant.4 in
-    record { fits = omega arith }
 
 pub loop-m-preserved : goal.loop-m-preserved
 loop-m-preserved c =

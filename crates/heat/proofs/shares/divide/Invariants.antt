@@ -9,7 +9,7 @@ use Prim.Native.Nat.{◌-◌, ◌*◌, ◌/◌, ◌%◌, ◌^◌, ◌≤◌}
 use Rattle.heat.proofs.shares.divide.Given as goal
 
 abbrev pub invariant-loop-m : goal.invariant-loop-m
-invariant-loop-m l =     (l.m ≤ meters) × (length l.remainders ≡ meters) × (take l.m l.remainders ≡ tab l.m (λ k. at l.gains k * house % l.total)) × (l.given ≡ sum_below (λ k. at l.gains k * house / l.total) l.m) × (l.given ≤ 2 ^ 52 * l.m)
+invariant-loop-m l = (l.m ≤ meters) × (length l.remainders ≡ meters) × (take l.m l.remainders ≡ tab l.m (λ k. at l.gains k * house % l.total)) × (l.given ≡ sum_below (λ k. at l.gains k * house / l.total) l.m) × (l.given ≤ 2 ^ 52 * l.m)
 
 abbrev pub decreases-loop-m : goal.decreases-loop-m
 decreases-loop-m l = meters - l.m

@@ -8,7 +8,7 @@ use lib.Dec.{eqb}
 use mathlib.Core.Bool.{Bool, ◌&&◌}
 use native.Mathlib.Omega.{arith}
 use mathlib.Core.Path.{◌≡◌, refl, ap₂, ap, ◌∙◌}
-use Prim.Native.Nat.{ℕ, ◌+◌, ◌-◌}
+use Prim.Native.Nat.{ℕ, ◌+◌}
 use Rattle.heat.proofs.shares.rank_of.Goals as goal
 
 pub loop-k-init : goal.loop-k-init

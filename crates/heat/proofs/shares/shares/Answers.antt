@@ -4,26 +4,17 @@ use Rattle.octets.proofs.Build.{tab_more, tab_whole}
 use Rattle.octets.specs.Lists.{at}
 use Rattle.transaction.specs.Transaction.{meters}
 use lib.Dec.{eqb}
-use lib.ListN.{length, take, set, length-set}
+use lib.ListN.{take, set, length-set}
 use mathlib.Core.Bool.{Bool, cond}
 use native.Mathlib.Omega.{arith}
-use mathlib.Core.Path.{refl, ap, ◌∙◌}
-use Prim.Native.Nat.{ℕ, ◌+◌, ◌-◌}
+use mathlib.Core.Path.{ap, ◌∙◌}
+use Prim.Native.Nat.{ℕ, ◌+◌}
 use Rattle.heat.proofs.shares.shares.Goals as goal
 
 pub overflow_sub-missing : goal.overflow_sub-missing
 overflow_sub-missing c =
     let a = c.args in
     given_fits (λ i. eqb (at a.listed.now i) 1) (at a.gains.now) a.sum c.requires.3 c.divide-d.ensures.given
-
-pub loop-m-init : goal.loop-m-init
-loop-m-init c = (omega arith, refl, refl)
-
-pub share_of-s-requires : goal.share_of-s-requires
-share_of-s-requires c =
-    let l = c.loop-m in
-    let p = c.requires in
-    (p.0, p.1, ap length c.divide-d.ensures.remainders, p.2, omega arith, p.4 l.m (omega arith))
 
 pub loop-m-preserved : goal.loop-m-preserved
 loop-m-preserved c =

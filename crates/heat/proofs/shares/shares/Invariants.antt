@@ -11,7 +11,7 @@ use Prim.Native.Nat.{◌-◌, ◌≤◌}
 use Rattle.heat.proofs.shares.shares.Given as goal
 
 abbrev pub invariant-loop-m : goal.invariant-loop-m
-invariant-loop-m l =     (l.m ≤ meters) × (length l.shares ≡ meters) × (take l.m l.shares ≡ tab l.m (λ k. cond (eqb (at l.listed k) 1) (share (λ i. eqb (at l.listed i) 1) (at l.gains) k) 0))
+invariant-loop-m l = (l.m ≤ meters) × (length l.shares ≡ meters) × (take l.m l.shares ≡ tab l.m (λ k. cond (eqb (at l.listed k) 1) (share (λ i. eqb (at l.listed i) 1) (at l.gains) k) 0))
 
 abbrev pub decreases-loop-m : goal.decreases-loop-m
 decreases-loop-m l = meters - l.m

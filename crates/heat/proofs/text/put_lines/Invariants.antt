@@ -10,7 +10,7 @@ use Prim.Native.Nat.{◌-◌, ◌*◌, ◌≤◌}
 use Rattle.heat.proofs.text.put_lines.Given as goal
 
 abbrev pub invariant-loop-m : goal.invariant-loop-m
-invariant-loop-m l =     (l.m ≤ meters) × (l.at ≡ length (lines_below (table_from l.start) (table_from l.end) l.m)) × (l.at ≤ line_max * l.m) × (l.out ≡ over (lines_below (table_from l.start) (table_from l.end) l.m) l.initial.out) × (length l.out ≡ length l.initial.out)
+invariant-loop-m l = (l.m ≤ meters) × (l.at ≡ length (lines_below (table_from l.start) (table_from l.end) l.m)) × (l.at ≤ line_max * l.m) × (l.out ≡ over (lines_below (table_from l.start) (table_from l.end) l.m) l.initial.out) × (length l.out ≡ length l.initial.out)
 
 abbrev pub decreases-loop-m : goal.decreases-loop-m
 decreases-loop-m l = meters - l.m

@@ -3,6 +3,7 @@ use Rattle.heat.specs.Uses.{heat_in_both, heat_in_one, difference, counted}
 use Rattle.heat.proofs.SignedLaws.{kept, difference_small, gain_small}
 use lib.IntN.{ℤ}
 use lib.Signed.{mag}
+use native.Mathlib.Omega.{arith}
 use mathlib.Core.Bool.{cond}
 use Prim.Native.Nat.{◌^◌, ◌<◌}
 use mathlib.Core.Path.{refl, ap, ◌∙◌}
@@ -12,10 +13,9 @@ pub returns : goal.returns
 unfolding heat_in_both heat_in_one difference
 returns c =
     let e = c.args in
-    let ha : mag e.a.reading < 2 ^ 31 = c.struct_told-1.given.1.1.0.1 in
-    let hb : mag e.b.reading < 2 ^ 31 = c.struct_told-2-1.given.1.1.0.1 in
+    let ha : mag e.a.reading < 2 ^ 31 = omega arith in
+    let hb : mag e.b.reading < 2 ^ 31 = omega arith in
     let is = kept e.a.reading e.b.reading ha hb c.difference-used.ensures in
     let gains = c.gain_of-gain.ensures ∙ ap (λ (z : ℤ). cond (heat_in_both e.a e.b) (counted z) 0) is in
     let small = difference_small e.a.reading e.b.reading ha hb in
-    let all = (refl, (refl, (is, (gains, (rw is small, rw gains (gain_small (heat_in_both e.a e.b) (difference e.a e.b) small)))))) in
-    record { listed = all.0; changed = all.1; used = all.2; gain = all.3; small = all.4 }
+    record { listed = refl; changed = refl; used = is; gain = gains; small = (rw is small, rw gains (gain_small (heat_in_both e.a e.b) (difference e.a e.b) small)) }

@@ -12,21 +12,12 @@ use lib.ListN.{take, set, length-set}
 use mathlib.Core.Bool.{Bool, cond, ◌||◌}
 use native.Mathlib.Omega.{arith}
 use mathlib.Core.Path.{◌≡◌, refl, ap, ap₂, ◌∙◌}
-use Prim.Native.Nat.{ℕ, ◌+◌, ◌-◌, ◌^◌}
+use Prim.Native.Nat.{ℕ, ◌+◌, ◌^◌}
 use Rattle.heat.proofs.uses.uses_in.Goals as goal
 
 pub loop-m-init : goal.loop-m-init
 unfolding any_below sum_below
 loop-m-init c = (omega arith, refl, refl, omega arith, refl, refl, refl, refl, λ k h. absurd (not-suc-le-zero h))
-
-pub overflow_add-total : goal.overflow_add-total
-overflow_add-total c =
-    let g = c.use_of-u.ensures.changed.1.1.1.1 in
-    let l = c.loop-m.invariant in
-    let a = l.0 in
-    let b = l.3 in
-    let t = c.loop-m-test.true in
-    record { fits = omega arith }
 
 pub loop-m-preserved : goal.loop-m-preserved
 loop-m-preserved c =
@@ -42,9 +33,9 @@ loop-m-preserved c =
     let ea = c.entry_at-a.ensures in
     let eb = c.entry_at-b.ensures in
     let hl = u.ensures.listed ∙ listed_at s e m pre.0 pre.1 ea eb in
-    let hc = u.ensures.changed.0 ∙ changed_at s e m pre.0 pre.1 ea eb in
-    let hg = u.ensures.changed.1.1.0 ∙ gain_at s e m pre.0 pre.1 ea eb in
-    let small = u.ensures.changed.1.1.1.1 in
+    let hc = u.ensures.changed ∙ changed_at s e m pre.0 pre.1 ea eb in
+    let hg = u.ensures.gain ∙ gain_at s e m pre.0 pre.1 ea eb in
+    let small = u.ensures.small.1 in
     let inv = l.invariant in
     let low = inv.0 in
     let bound = inv.3 in
@@ -60,5 +51,10 @@ returns c =
     let inv = l.invariant in
     let low = inv.0 in
     let all : l.m ≡ meters = omega arith in
-    let all = (inv.1 ∙ ap (any_below (code_changed S E)) all, (inv.2 ∙ ap (sum_below (gain S E)) all, (tab_whole (λ k. cond (listed S E k) 1 0) l.listed meters l.m low (omega arith) inv.4 inv.5, (tab_whole (gain S E) l.gains meters l.m low (omega arith) inv.6 inv.7, λ m h. inv.8 m (omega arith))))) in
-    record { changed = all.0; total = all.1; listed = all.2; gains = all.3; small = all.4 }
+    record {
+      changed = inv.1 ∙ ap (any_below (code_changed S E)) all;
+      total = inv.2 ∙ ap (sum_below (gain S E)) all;
+      listed = tab_whole (λ k. cond (listed S E k) 1 0) l.listed meters l.m low (omega arith) inv.4 inv.5;
+      gains = tab_whole (gain S E) l.gains meters l.m low (omega arith) inv.6 inv.7;
+      small = λ m h. inv.8 m (omega arith);
+    }
