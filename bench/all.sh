@@ -4,7 +4,7 @@
 set -euo pipefail
 cd "$(dirname "$0")/.."
 
-rt staticlib test_cipher | tail -n 1
-rt staticlib test_sealed | tail -n 1
+sh tools/archive.sh test_cipher
+sh tools/archive.sh test_sealed
 sh tools/lib.sh
 sh bench/run.sh

@@ -14,7 +14,8 @@ NAME=$1 awk '
         print name
     }
     { sub(/#.*/, "") }
-    /:/ { name = $0; sub(/:.*/, "", name); gsub(/[ \t]/, "", name); sub(/^[^:]*:/, ""); deps[name] = $0 }
+    # Behind the name may stand what kind of crate it is.
+    /:/ { name = $1; sub(/:.*/, "", name); sub(/^[^:]*:/, ""); deps[name] = $0 }
     END {
         if (!(ENVIRON["NAME"] in deps)) { print "crates.txt does not list " ENVIRON["NAME"] > "/dev/stderr"; exit 1 }
         visit(ENVIRON["NAME"])

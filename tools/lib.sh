@@ -3,9 +3,10 @@
 # It ends with the library's identity: edition, hash of the sources, hash of the archive, kit. The same lines are beside the
 # archive in libpaviluko.txt; an archive that does not fit them (of a build that was broken off, say) is built anew.
 #
-# Every proof is checked once, as many crates at a time as tools/jobs.sh says. A line is printed for each crate that ends, and
-# none for one that was proved before; a terminal also shows what is being proved now. Where a crate is not proved, what rt said
-# of it is shown, and the exit status is 1.
+# Every proof is checked once, a crate behind those that it stands on, with as many processes as rt chooses. A line is printed for
+# each crate that ends, and none for one that was proved before; a terminal also shows what is being proved now. Where a crate is not
+# proved, those that do not stand on it are still tried, what rt said of it is shown, and the exit status is 1.
+# What rt said of each crate is left in target/log/NAME.
 #
 # With --brief, an archive that is up to date is passed over without a word.
 set -eu
@@ -51,7 +52,7 @@ job=
 said=$scratch/said
 began=$(date +%s)
 
-# rt has a process group of its own, since the checks that it starts would outlive it.
+# rt has a process group of its own, which a signal to this script does not reach.
 clean() {
     if [ -n "$job" ]; then
         kill -s TERM -- "-$job" 2>/dev/null || true
@@ -76,30 +77,44 @@ line() {
     echo "$1"
 }
 
-# Runs rt, and in the meantime, again and again, a function that looks how far it is. The status is rt's.
-run_rt() { # LOOK WORDS..
-    looks=$1
+# Runs a script that calls rt, and shows in the meantime how far it is. The status is rt's.
+run_rt() { # DOING WORDS..
+    doing=$1
     shift
-    TMPDIR=$scratch RT_JOBS=$jobs setsid rt "$@" >"$said" 2>&1 &
+    : >"$said"
+    TMPDIR=$scratch setsid "$@" >"$said" 2>&1 &
     job=$!
     while kill -0 "$job" 2>/dev/null; do
-        "$looks"
-        sleep 0.3
+        ! is_proving || announce
+        moving "$(printf '[%2d of %d] %s  %s' "$ended" "$all" "$(elapsed)" "$doing")"
+        sleep 0.1
     done
     status=0
     wait "$job" || status=$?
     job=
-    "$looks"
+    ! is_proving || announce
     moving ''
     return "$status"
 }
 
-jobs=$(sh tools/jobs.sh)
+# Whether rt began a check, by the lines that it prints then: of a crate that was proved before, here or in another copy on this
+# machine, it has nothing to say.
+is_proving() {
+    grep -q '^rt: chose --jobs \|^logic' "$said"
+}
+
 crates=$(sh tools/crates.sh paviluko)
 all=$(echo "$crates" | wc -l)
-left=$(echo "$crates" | grep -vx paviluko)
+below=$(echo "$crates" | grep -vx paviluko)
 ended=0
 announced=
+failed=
+
+announce() {
+    [ -z "$announced" ] || return 0
+    announced=yes
+    line "checking the proofs of the library's $all crates: some TODO-GATE minutes where none is proved yet"
+}
 
 # A crate has ended: counts it, and prints its line unless it had been proved before.
 end() { # NAME WORDS
@@ -112,65 +127,46 @@ elapsed() {
     printf '%d:%02d' $((took / 60)) $((took % 60))
 }
 
-# How far the crates below are, by the files that rt keeps: NAME.say from when a crate is really being proved, and as the last line
-# of NAME.out its verdict.
-look_below() {
-    waiting=
-    now=
-    for crate in $left; do
-        verdict=$(tail -n 1 "target/log/$crate.out" 2>/dev/null || true)
-        verdict=${verdict#"rt: $crate "}
-        if [ -z "$announced" ] && [ -f "target/log/$crate.say" ]; then
-            announced=yes
-            line "checking the proofs of the library's $all crates: some five minutes where none is proved yet"
-        fi
-        case $verdict in
-        'proved (unchanged'*) end "$crate" '' ;;
-        'proved ('*)
-            verdict=${verdict#proved (}
-            end "$crate" "proved in ${verdict%)}"
-            ;;
-        'NOT PROVED: its dependency '*)
-            verdict=${verdict#NOT PROVED: its dependency }
-            end "$crate" "not tried, for ${verdict%% *} is not proved"
-            ;;
-        'NOT PROVED'*) end "$crate" 'NOT PROVED' ;;
-        *)
-            waiting="$waiting $crate"
-            [ ! -f "target/log/$crate.say" ] || now="$now, $crate"
-            ;;
+# The first crate below this one that is not proved.
+lacks() { # NAME
+    [ -n "$failed" ] || return 0
+    for each in $(sh tools/crates.sh "$1"); do
+        case " $failed " in
+        *" $each "*) echo "$each"; return ;;
         esac
     done
-    left=$waiting
-    [ -z "$now" ] || moving "$(printf '[%2d of %d] %s  %s' "$ended" "$all" "$(elapsed)" "proving ${now#, }")"
-}
-
-look_top() {
-    moving "$(printf '[%2d of %d] %s  %s' "$ended" "$all" "$(elapsed)" 'proving paviluko and compiling the library')"
-}
-
-# What rt printed, without what it printed of crates that are proved.
-show() {
-    awk '
-        { text = text $0 "\n" }
-        /^rt: [A-Za-z0-9_]* proved \(/ { text = "" }
-        /^rt: [A-Za-z0-9_]* NOT PROVED: its dependency / { text = "" }
-        /^rt: [A-Za-z0-9_]* NOT PROVED/ { printf "%s", text; text = "" }
-        END { printf "%s", text }' "$said" >&2
 }
 
 # ---- the proofs of the crates below, then the archive ----
 
 before=$(sh tools/sources.sh)
+mkdir -p target/staticlib target/log
 rm -f "$identity"
-for crate in $left; do
-    rm -f "target/log/$crate.say" "target/log/$crate.out" "target/log/$crate.res"
-done
 
-# shellcheck disable=SC2086 # a list of names
-run_rt look_below check $left || { show; fail 'the library is not built: a proof failed'; }
+for crate in $below; do
+    rm -f "target/log/$crate"
+    lacking=$(lacks "$crate")
+    if [ -n "$lacking" ]; then
+        end "$crate" "not tried, for $lacking is not proved"
+        continue
+    fi
+    start=$(date +%s)
+    # shellcheck disable=SC2016 # for the other shell
+    if run_rt "proving $crate" sh -c 'cd "crates/$1" && exec rt lib' sh "$crate"; then
+        words=
+        ! is_proving || words="proved in $(($(date +%s) - start)) s"
+        end "$crate" "$words"
+    else
+        failed="$failed $crate"
+        cat "$said" >>"$scratch/shown"
+        end "$crate" 'NOT PROVED'
+    fi
+    cp "$said" "target/log/$crate"
+done
+[ -z "$failed" ] || { cat "$scratch/shown" >&2; fail 'the library is not built: a proof failed'; }
 start=$(date +%s)
-run_rt look_top staticlib paviluko || { show; fail 'the library is not built: paviluko is not proved, or was not compiled'; }
+run_rt 'proving paviluko and compiling the library' sh tools/archive.sh paviluko ||
+    { cat "$said" >&2; fail 'the library is not built: paviluko is not proved, or was not compiled'; }
 end paviluko "proved and compiled in $(($(date +%s) - start)) s"
 
 # ---- its identity ----

@@ -85,9 +85,10 @@ done
 between() { # FIRST LAST
     sed -n "/^$1/,/^$2/s/^    //p" README.md
 }
-readme=$built/readme
-rm -rf "$readme"
-mkdir "$readme"
+# In a folder of its own, with links to what they name: rt wants none among the repository's files.
+readme=$(sh tools/scratch.sh)
+trap 'rm -rf "$readme"' EXIT
+trap 'exit 1' INT TERM
 ln -s "$(pwd)/include" "$(pwd)/target" "$readme"
 between 'A whole program,' 'It is built and run so' >"$readme/sample.c"
 between 'It is built and run so' 'A call that is turned down' >"$readme/session"

@@ -6,7 +6,7 @@
 set -eu
 
 program=${HEATSPLIT:-target/bin/heatsplit}
-[ -x "$program" ] || { echo "$program is missing: build it first" >&2; exit 1; }
+[ -x "$program" ] || { echo "$program is missing: sh tools/heatsplit.sh builds it" >&2; exit 1; }
 
 . tests/with_library.sh
 sh tests/cipher/packages.sh gcc libc6-dev libssl-dev python3

@@ -11,7 +11,7 @@ top=$place/tree
 identity=$top/target/staticlib/libpaviluko.txt
 
 mkdir "$top" "$place/bin"
-cp -R crates crates.txt include tools "$top"
+sh tools/copy.sh "$top"
 cp tests/install/rt.sh "$place/bin/rt"
 chmod 755 "$place/bin/rt"
 PATH=$place/bin:$PATH
@@ -41,9 +41,13 @@ all=$(echo "$crates" | wc -w)
 lib 0
 sed -n 's/^\[ *\([0-9]*\) of .*/\1/p' "$log" >"$place/numbers"
 seq "$all" | diff - "$place/numbers" >&2 || fail 'the crates are not counted from 1 on'
-grep -qx "\[ *[0-9]* of $all\] octets: proved in 3 s" "$log" || fail 'no line for octets'
+grep -qx "\[ *[0-9]* of $all\] octets: proved in [0-9]* s" "$log" || fail 'no line for octets'
 ! grep -q 'what the prover says' "$log" || fail 'it shows what rt says of crates that are proved'
 tail -n 4 "$log" | diff - "$identity" >&2 || fail 'other lines in libpaviluko.txt'
+cmp "$top/crates/paviluko/out/libpaviluko.a" "$top/target/staticlib/libpaviluko.a" >&2 || fail 'not the archive that rt built'
+for crate in $crates; do
+    grep -q '^logic=proved functions=' "$top/target/log/$crate" || fail "no verdict on $crate in target/log"
+done
 sum=$(sha256sum "$top/target/staticlib/libpaviluko.a")
 printf 'edition %s\nsources %s\narchive %s\nkit no kit\n' "$(sed -n 's/^#define PAVILUKO_EDITION //p' include/paviluko.h)" \
     "$(sh tools/sources.sh)" "${sum%% *}" | diff - "$identity" >&2 || fail 'another identity'
@@ -62,13 +66,18 @@ lib 0
 echo '-- more' >>"$top/crates/sealed/specs/Lib.antt"
 lib 1 BAD=vault
 grep -q '\] vault: NOT PROVED$' "$log" || fail 'no line for the crate that is not proved'
-grep -q '\] boundary: not tried, for vault is not proved$' "$log" || fail 'no line for a crate that stands on it'
+grep -q '\] journal: not tried, for vault is not proved$' "$log" || fail 'no line for a crate that stands on it'
+grep -q '\] bus: proved in [0-9]* s$' "$log" || fail 'a crate that does not stand on it is not tried'
 grep 'what the prover says' "$log" >"$place/shown" || true
 echo 'what the prover says of vault' | diff - "$place/shown" >&2 || fail 'not what rt says of vault'
 [ ! -f "$identity" ] || fail 'an identity of a library that was not built'
 lib 1 BAD=paviluko
 grep -qx 'the archive is not made' "$log" || fail 'not what rt says of the archive'
 [ ! -f "$identity" ] || fail 'an identity of an archive that was not made'
+[ ! -f "$top/target/staticlib/libpaviluko.a" ] || fail 'an archive that was not made'
+lib 1 MUTE=paviluko
+grep -q 'no verdict on what it linked$' "$log" || fail 'an archive with no verdict is taken'
+[ ! -f "$identity" ] || fail 'an identity of an archive with no verdict'
 
 # Sources that are edited meanwhile.
 lib 1 EDITED=crates/table/specs/Lib.antt
@@ -79,12 +88,12 @@ grep -q '^the sources changed while' "$log" || fail 'it does not say that the so
 SLOW=vault sh "$top/tools/lib.sh" >"$log" 2>&1 &
 job=$!
 tries=0
-until [ -s "$top/target/log/asleep" ]; do
+until [ -s "$top/target/asleep" ]; do
     tries=$((tries + 1))
     [ "$tries" -lt 300 ] || fail 'it did not come to vault'
     sleep 0.1
 done
-asleep=$(cat "$top/target/log/asleep")
+asleep=$(cat "$top/target/asleep")
 kill -s TERM "$job"
 status=0
 wait "$job" || status=$?

@@ -47,7 +47,7 @@ flip() {
 
 heatsplit=$top/target/bin/heatsplit
 [ -x "$heatsplit" ] || [ "$PAVILUKO_LIB" != "$top/target/staticlib" ] ||
-    fail "$heatsplit is missing: rt check heatsplit builds it"
+    fail "$heatsplit is missing: sh tools/heatsplit.sh builds it"
 
 quietly sh tools/cargo.sh build --release --quiet -p paviluko_host
 
