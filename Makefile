@@ -12,7 +12,7 @@ help:
 	@echo 'make lib         proves and builds target/staticlib/libpaviluko.a, and prints its identity; some TODO-GATE minutes at first'
 	@echo 'make install     puts header, archive, pkg-config file and man page below PREFIX (/usr/local; DESTDIR before it)'
 	@echo 'make uninstall   takes them away again, from the same PREFIX and DESTDIR'
-	@echo 'make test        the whole gate: everything proved from nothing, then all tests; some TODO-GATE minutes'
+	@echo 'make test        the whole gate: everything proved, then all tests; from nothing some TODO-GATE minutes'
 	@echo 'make bench       our speed beside other libraries'"'"', and the stack of each call'
 	@echo 'make torture     N random histories (20000) from SEED (1000000) on, library and model side by side'
 	@echo 'make reproduce   builds the library from nothing in another folder and compares the archives; some TODO-GATE minutes'
