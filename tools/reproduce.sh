@@ -17,7 +17,9 @@ fail() {
 sh tools/lib.sh --brief
 
 here=$(pwd -P)
-place=$(sh tools/scratch.sh)
+# Not in memory, unless TMPDIR is: a build from nothing leaves some gigabyte in out/
+place=$(mktemp -d "${TMPDIR:-/tmp}/paviluko.XXXXXX")
+chmod 711 "$place"
 trap 'rm -rf "$place"' EXIT
 trap 'exit 1' HUP INT PIPE TERM
 there=$place/second

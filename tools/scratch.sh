@@ -1,7 +1,7 @@
 #!/bin/sh
 # Makes a folder for temporary files and prints its name; whoever asked for it removes it. It is in memory where there is
-# room for a few checks at a time: each makes some 3,500 files, over 100 MB, and removes them again, which on a disk took up
-# to a third of a small check's time. Anybody may pass through the folder, since rt runs programs as nobody.
+# room: tests and checks make thousands of small files and remove them again. Anybody may pass through the folder, since rt
+# runs programs as nobody.
 set -eu
 
 place=${TMPDIR:-/tmp}
