@@ -5,7 +5,7 @@ use mathlib.Core.Bool.{Bool}
 use Prim.Native.Nat.{ℕ, suc, ◌<◌}
 use lib.Dec.{T, eqb, eqb→eq, ltb, ltb→lt}
 use lib.Bits.{xor_zero_r, xor_lt}
-use Rattle.octets.proofs.Table.{up_to_law, below}
+use Rattle.octets.proofs.Table.{up_to, below}
 use Rattle.aes_key.specs.Gf.{◌⊕◌, ◌•◌, x_times, times_bits, squares, inverse}
 
 pub xor8 : {a b : ℕ} → a < 256 → b < 256 → a ⊕ b < 256
@@ -22,7 +22,7 @@ three_times b = ap (λ (x : ℕ). b ⊕ x) (xor_zero_r (x_times b))
 double_small : ℕ → Bool
 double_small x = ltb (x_times x) 256
 
-double_test : T (up_to_law double_small 256)
+double_test : T (up_to double_small 256)
 unfolding double_small x_times
 double_test = tt
 
@@ -40,7 +40,7 @@ three_lt x h = rw three_times (xor8 h (double_lt x h))
 inverse_right : ℕ → Bool
 inverse_right x = eqb (suc x • inverse (suc x)) 1
 
-inverse_test : T (up_to_law inverse_right 255)
+inverse_test : T (up_to inverse_right 255)
 unfolding inverse_right inverse squares ◌•◌ times_bits x_times
 inverse_test = tt
 

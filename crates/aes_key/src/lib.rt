@@ -85,7 +85,7 @@ fn sub_word(t: &[u8; 256], w: u32) -> u32
 fn next_word(t: &[u8; 256], rc: &[u8; 10], w: &[u32; 44], i: usize) -> u32
     requires sbox { IsSbox t.now }
     requires rcon { IsRcon rc.now }
-    requires le_i { (4 ≤ i) × (i < 44) }
+    requires in_range { (4 ≤ i) × (i < 44) }
     ensures { result ≡ next_word w.now i }
 {
     let last = w[i - 1];

@@ -19,7 +19,7 @@ use Rattle.heat.specs.Uses.{listed, used}
 use Rattle.heat.specs.Numerals.{zero_byte, minus_byte, numeral, signed_numeral}
 use Rattle.heat.specs.Text.{comma, newline, heading, line, share_of, line_of, lines_below, split_text}
 use Rattle.transaction.specs.Signed.{minus}
-use Rattle.heat.specs.Rows.{Row, rows_below, number_from, number_in, signed_in, up_to_law, past, row_in, rows_within, rows_in}
+use Rattle.heat.specs.Rows.{Row, rows_below, number_from, number_in, signed_in, up_to, past, row_in, rows_within, rows_in}
 use Rattle.heat.specs.Sums.{sum_below}
 use Rattle.heat.specs.Claim.{Rising, shares_in}
 use Rattle.heat.proofs.NumeralLaws.{numeral_digit, numeral_more}
@@ -94,10 +94,10 @@ signed_reads_back (negsuc n) = ap minus (number_reads_back (suc n))
 
 -- ---- up to a byte, and past it
 
-up_to : {b : ℕ} {s : List ℕ} (u : List ℕ) → Plain b s → up_to_law b (s ++ (b ∷ u)) ≡ s
-unfolding up_to_law
-up_to {b} u none = rw (eq-eqb b b refl)
-up_to u (more e p) = rw (e, up_to u p)
+up_to_law : {b : ℕ} {s : List ℕ} (u : List ℕ) → Plain b s → up_to b (s ++ (b ∷ u)) ≡ s
+unfolding up_to
+up_to_law {b} u none = rw (eq-eqb b b refl)
+up_to_law u (more e p) = rw (e, up_to_law u p)
 
 -- what a byte stands nowhere in is passed over
 past_over : {b : ℕ} {s : List ℕ} (u : List ℕ) → Plain b s → past b (s ++ u) ≡ past b u
@@ -134,7 +134,7 @@ module _ (m : ℕ) (z : ℤ) (part : ℕ) (u : List ℕ) where
 
   row_whole : row_in whole ≡ record { meter = m; used = z; share = part }
   unfolding row_in
-  row_whole = rw (past_second, past_first, up_to second (plain_numeral comma m (omega arith)), up_to third (plain_signed comma z (omega arith)), up_to u (plain_numeral newline part (omega arith)), number_reads_back m, signed_reads_back z, number_reads_back part)
+  row_whole = rw (past_second, past_first, up_to_law second (plain_numeral comma m (omega arith)), up_to_law third (plain_signed comma z (omega arith)), up_to_law u (plain_numeral newline part (omega arith)), number_reads_back m, signed_reads_back z, number_reads_back part)
 
   row_back : row_in (line m z part ++ u) ≡ record { meter = m; used = z; share = part }
   row_back = ap row_in line_then ∙ row_whole

@@ -37,9 +37,9 @@ signed_in (x ∷ t) = cond (eqb x minus_byte) (minus (number_in t)) (pos (number
 -- ---- lines, read back
 
 -- the bytes before the first b, and those behind it
-unfoldable pub up_to_law : ℕ → List ℕ → List ℕ
-up_to_law b [] = []
-up_to_law b (x ∷ t) = cond (eqb x b) [] (x ∷ up_to_law b t)
+unfoldable pub up_to : ℕ → List ℕ → List ℕ
+up_to b [] = []
+up_to b (x ∷ t) = cond (eqb x b) [] (x ∷ up_to b t)
 
 unfoldable pub past : ℕ → List ℕ → List ℕ
 past b [] = []
@@ -48,9 +48,9 @@ past b (x ∷ t) = cond (eqb x b) t (past b t)
 -- the row of the line that the bytes begin with
 unfoldable pub row_in : List ℕ → Row
 row_in t = record {
-  meter = number_in (up_to_law comma t);
-  used = signed_in (up_to_law comma (past comma t));
-  share = number_in (up_to_law newline (past comma (past comma t)));
+  meter = number_in (up_to comma t);
+  used = signed_in (up_to comma (past comma t));
+  share = number_in (up_to newline (past comma (past comma t)));
 }
 
 -- line after line, so many at the most
