@@ -4,6 +4,8 @@
 // is written, and one for a word that is none of the script's.
 #![tactic(auto)]
 
+ghost use Rattle.std.specs.Prelude.{◌≤◌, IfOk, length};
+
 mod bytes;
 mod call;
 mod frame;
@@ -163,10 +165,24 @@ fn run(
     Ok(())
 }
 
+// Reads until buf is full or the input ends, and answers how many bytes it put at the start of buf.
+fn fill(from: &mut impl Read, buf: &mut [u8]) -> io::Result<usize>
+    ensures { IfOk result (λ n. n ≤ length buf.new) }
+{
+    let mut done = 0;
+    while done < buf.len() {
+        let n = from.read(&mut buf[done..])?;
+        if n == 0 {
+            break;
+        }
+        done += n;
+    }
+    Ok(done)
+}
+
 fn main(rt: HostRuntime) -> io::Result<()> {
-    let mut script = Vec::new(rt.alloc());
-    rt.reader().take(65536).read_to_end(&mut script)?;
-    script.resize(65536, 0)?;
+    let mut script = [0u8; 65536];
+    fill(&mut rt.reader(), &mut script)?;
     let mut text = [0u8; 512];
     let mut file = [0u8; 6185];
     let mut log = [0u8; 262145];

@@ -23,9 +23,9 @@ pub const LOG_MAX: usize = 262144;
 // recovers with a store due that is not recovery's, and a number that cannot be set (1), a log that is too long or an
 // output with no room for the file (3), a spent counter (8), and what does not read (9 to 13).
 //
-// The steps take the parts of the state that they look at, and an answer that names a store is built in place: passing
-// the state is copying it.
-pub fn recover(c: State, checkpoint: &[u8], log: &[u8], out: &mut [u8]) -> Answer
+// The steps take the parts of the state that they look at, and the state that is handed back is the one that came, changed in
+// place: passing the state is copying it, and each copy is stack. So is a value that comes out of a match: each way returns by itself.
+pub fn recover(mut c: State, checkpoint: &[u8], log: &[u8], out: &mut [u8]) -> Answer
     ensures answer { shown_as result (recover c checkpoint.now log.now (length out.old)).put ≡ recover c checkpoint.now log.now (length out.old) }
     ensures bytes { out.new ≡ put_over (recover c checkpoint.now log.now (length out.old)).put out.old }
 {
@@ -50,32 +50,21 @@ pub fn recover(c: State, checkpoint: &[u8], log: &[u8], out: &mut [u8]) -> Answe
             let end = got.end;
             match end {
                 LogEnd::Read => {
-                    let table = got.table;
                     let n = x.n;
                     let value = n + 1;
-                    let raised = vault::set_n(x, value);
-                    let journal = c.journal;
-                    let points = c.points;
-                    let held = c.held;
-                    let state = State {
-                        vault: raised,
-                        phase: Phase::Recovering,
-                        due: Due::Recover {
-                            step: RecoverStep::File { second: false },
-                        },
-                        table,
-                        journal,
-                        points,
-                        held,
-                        key,
+                    c.vault = vault::set_n(x, value);
+                    c.phase = Phase::Recovering;
+                    c.due = Due::Recover {
+                        step: RecoverStep::File { second: false },
                     };
+                    c.table = got.table;
                     let outcome = Outcome::Taken {
                         store: Store::N { value },
                         len: 0,
                     };
-                    Answer { state, outcome }
+                    return Answer { state: c, outcome };
                 }
-                LogEnd::Stopped { why } => state::refused(c, why),
+                LogEnd::Stopped { why } => return state::refused(c, why),
             }
         }
         Phase::Recovering => {
@@ -94,32 +83,18 @@ pub fn recover(c: State, checkpoint: &[u8], log: &[u8], out: &mut [u8]) -> Answe
                     if out.len() < FILE_LEN {
                         return state::refused(c, Refusal::Length { right: FILE_LEN });
                     }
-                    let key = c.key;
-                    let t = c.table;
                     let version = s + 1;
                     let seal = x.n;
-                    steps::put_table(key, version, seal, t, out);
-                    let journal = c.journal;
-                    let points = c.points;
-                    let held = c.held;
+                    steps::put_table(c.key, version, seal, c.table, out);
                     let number = RecoverNumber::S { second };
-                    let state = State {
-                        vault: x,
-                        phase,
-                        due: Due::Recover {
-                            step: RecoverStep::Number { number },
-                        },
-                        table: t,
-                        journal,
-                        points,
-                        held,
-                        key,
+                    c.due = Due::Recover {
+                        step: RecoverStep::Number { number },
                     };
                     let outcome = Outcome::Taken {
                         store: Store::File,
                         len: FILE_LEN,
                     };
-                    Answer { state, outcome }
+                    return Answer { state: c, outcome };
                 }
                 RecoverStep::Number { number } => {
                     let set = go_on::number_step(x, number);
@@ -127,51 +102,25 @@ pub fn recover(c: State, checkpoint: &[u8], log: &[u8], out: &mut [u8]) -> Answe
                     if !goes {
                         return state::refused(c, Refusal::Condition);
                     }
-                    let vault = set.vault;
-                    let next = set.due;
+                    c.vault = set.vault;
+                    c.due = set.due;
                     let store = set.store;
-                    let table = c.table;
-                    let journal = c.journal;
-                    let points = c.points;
-                    let held = c.held;
-                    let key = c.key;
-                    let state = State {
-                        vault,
-                        phase,
-                        due: next,
-                        table,
-                        journal,
-                        points,
-                        held,
-                        key,
-                    };
                     let outcome = Outcome::Taken { store, len: 0 };
-                    Answer { state, outcome }
+                    return Answer { state: c, outcome };
                 }
                 RecoverStep::Empty => {
-                    let table = c.table;
-                    let journal = journal::no_journal();
-                    let points = journal::no_points();
-                    let held = c.held;
-                    let key = c.key;
-                    let state = State {
-                        vault: x,
-                        phase: Phase::Serving,
-                        due: Due::Nothing,
-                        table,
-                        journal,
-                        points,
-                        held,
-                        key,
-                    };
+                    c.phase = Phase::Serving;
+                    c.due = Due::Nothing;
+                    c.journal = journal::no_journal();
+                    c.points = journal::no_points();
                     let outcome = Outcome::Taken {
                         store: Store::Empty,
                         len: 0,
                     };
-                    Answer { state, outcome }
+                    return Answer { state: c, outcome };
                 }
             }
         }
-        Phase::Serving => state::refused(c, Refusal::Condition),
+        Phase::Serving => return state::refused(c, Refusal::Condition),
     }
 }

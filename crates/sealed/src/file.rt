@@ -72,6 +72,8 @@ fn closed() -> FileRead
 }
 
 // Opens all of s as a checkpoint file.
+// Not inlined: its stack is free again when the log is read.
+#[inline(never)]
 pub fn open_file<'a>(w: &'a [u32; 44], m: &'a [u64; 1024], s: &[u8]) -> FileRead
     ensures { result ≡ shown_file (open_file (prepared_by w.now m.now) s.now) }
 {

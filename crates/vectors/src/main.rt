@@ -8,7 +8,7 @@
 
 mod text;
 
-ghost use Rattle.std.specs.Prelude.{◌≤◌};
+ghost use Rattle.std.specs.Prelude.{◌≤◌, IfOk, length};
 ghost use Rattle.vectors.specs.Tally.{Single};
 
 use gcm::{Opening, Sealing};
@@ -220,9 +220,24 @@ fn counted(set: Set, s: &[u8]) -> Tally {
     }
 }
 
+// Reads until buf is full or the input ends, and answers how many bytes it put at the start of buf.
+fn fill(from: &mut impl Read, buf: &mut [u8]) -> io::Result<usize>
+    ensures { IfOk result (λ n. n ≤ length buf.new) }
+{
+    let mut done = 0;
+    while done < buf.len() {
+        let n = from.read(&mut buf[done..])?;
+        if n == 0 {
+            break;
+        }
+        done += n;
+    }
+    Ok(done)
+}
+
 // The tally of a file, of its first 65536 bytes. Where it cannot be opened, standard error says why, and it has no lines.
-fn run<R: Files + Alloc + Eprint>(rt: &R, set: Set, path: &str) -> io::Result<Tally> {
-    let file = match File::open(rt, path) {
+fn run<R: Files + Eprint>(rt: &R, set: Set, path: &str) -> io::Result<Tally> {
+    let mut file = match File::open(rt, path) {
         Ok(file) => file,
         Err(e) => {
             eprintln!(rt; "{path}: {e}")?;
@@ -233,9 +248,9 @@ fn run<R: Files + Alloc + Eprint>(rt: &R, set: Set, path: &str) -> io::Result<Ta
             });
         }
     };
-    let mut text = Vec::new(rt.alloc());
-    file.take(65536).read_to_end(&mut text)?;
-    Ok(counted(set, &text))
+    let mut text = [0u8; 65536];
+    let n = fill(&mut file, &mut text)?;
+    Ok(counted(set, &text[..n]))
 }
 
 // Writes what a set is called, and how many of its vectors agree.

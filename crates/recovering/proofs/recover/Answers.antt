@@ -76,7 +76,7 @@ pub returns-in-Read : goal.returns-in-Read
 returns-in-Read c =
     let g = c.args in
     let all = on_cold g.c g.checkpoint.now g.log.now g.out.now _ c.in-Cold.is
-    (first_taken g.c g.checkpoint.now g.log.now c.valid-fine.ensures c.is_nothing-free.ensures (ap not c.if-not-fine-free.false) c.if-log-gt-LOG_MAX.false c.spent.ensures c.if-spent.false c.read-got.result c.read-got.ensures c.in-Read.is c.set_n-raised.result c.set_n-raised.ensures) in
+    (first_taken g.c g.checkpoint.now g.log.now c.valid-fine.ensures c.is_nothing-free.ensures (ap not c.if-not-fine-free.false) c.if-log-gt-LOG_MAX.false c.spent.ensures c.if-spent.false c.read-got.result c.read-got.ensures c.in-Read.is c.set_n-c.result c.set_n-c.ensures) in
     record { answer = all.0; bytes = all.1 }
 
 pub returns-in-Stopped : goal.returns-in-Stopped
@@ -86,8 +86,8 @@ returns-in-Stopped c =
     (ap (λ (y : Answer). shown_as y []) c.refused-in-Stopped.ensures ∙ first_stopped g.c g.checkpoint.now g.log.now c.valid-fine.ensures c.is_nothing-free.ensures (ap not c.if-not-fine-free.false) c.if-log-gt-LOG_MAX.false c.spent.ensures c.if-spent.false c.read-got.result c.read-got.ensures c.in-Stopped.is) in
     record { answer = all.0; bytes = all.1 }
 
-pub returns-else-out-lt-FILE_LEN : goal.returns-else-out-lt-FILE_LEN
-returns-else-out-lt-FILE_LEN c =
+pub returns-in-File : goal.returns-in-File
+returns-in-File c =
     let g = c.args in
     -- what is known of the table among the parts of the state
     let k = c.well_formed.0.1.1.1.1.1.0 in
@@ -96,8 +96,8 @@ returns-else-out-lt-FILE_LEN c =
     (on_file g.c g.out.now c.in-Recover.is _ c.in-File.is _ refl (file_taken g.c _ g.out.now c.if-s-ge-COUNTER_MAX.false c.if-out-lt-FILE_LEN.false n _ _ refl c.put_table.ensures.buffer)) in
     record { answer = all.0; bytes = all.1 }
 
-pub returns-else-not-goes : goal.returns-else-not-goes
-returns-else-not-goes c =
+pub returns-in-Number : goal.returns-in-Number
+returns-in-Number c =
     let g = c.args in
     let all = on_valid g.c g.checkpoint.now g.log.now g.out.now _ c.in-Recovering.is c.valid-fine.ensures (ap not c.if-not-fine.false) _
     (on_number g.c g.out.now c.in-Recover.is _ c.in-Number.is c.number_step-set.ensures (step_goes g.c c.number_step-set.result (ap not c.if-not-goes.false))) in
@@ -107,7 +107,7 @@ pub returns-in-Empty : goal.returns-in-Empty
 returns-in-Empty c =
     let g = c.args in
     let all = on_valid g.c g.checkpoint.now g.log.now g.out.now _ c.in-Recovering.is c.valid-fine.ensures (ap not c.if-not-fine.false) _
-    (on_empty g.c g.out.now c.in-Recover.is _ c.in-Empty.is (emptied g.c c.no_journal-journal.result c.no_points-points.result c.no_journal-journal.ensures c.no_points-points.ensures)) in
+    (on_empty g.c g.out.now c.in-Recover.is _ c.in-Empty.is (emptied g.c c.no_journal-c.result c.no_points-c.result c.no_journal-c.ensures c.no_points-c.ensures)) in
     record { answer = all.0; bytes = all.1 }
 
 pub returns-in-Serving : goal.returns-in-Serving
