@@ -9,13 +9,13 @@ DESTDIR ?=
 help:
 	@echo 'make help        prints this, as make alone does'
 	@echo 'make run         builds the proved library and shows a box at work, and a year'"'"'s heat split; once built, a few seconds'
-	@echo 'make lib         proves and builds target/staticlib/libpaviluko.a, and prints its identity; some TODO-GATE minutes at first'
+	@echo 'make lib         proves and builds target/staticlib/libpaviluko.a, and prints its identity; some five to ten minutes at first'
 	@echo 'make install     puts header, archive, pkg-config file and man page below PREFIX (/usr/local; DESTDIR before it)'
 	@echo 'make uninstall   takes them away again, from the same PREFIX and DESTDIR'
-	@echo 'make test        the whole gate: everything proved, then all tests; from nothing some TODO-GATE minutes'
+	@echo 'make test        the whole gate: everything proved, then all tests; from nothing some half an hour'
 	@echo 'make bench       our speed beside other libraries'"'"', and the stack of each call'
 	@echo 'make torture     N random histories (20000) from SEED (1000000) on, library and model side by side'
-	@echo 'make reproduce   builds the library from nothing in another folder and compares the archives; some TODO-GATE minutes'
+	@echo 'make reproduce   builds the library from nothing in another folder and compares the archives; some five to ten minutes'
 
 run:
 	@sh tools/run.sh

@@ -113,7 +113,7 @@ failed=
 announce() {
     [ -z "$announced" ] || return 0
     announced=yes
-    line "checking the proofs of the library's $all crates: some TODO-GATE minutes where none is proved yet"
+    line "checking the proofs of the library's $all crates: some five to ten minutes where none is proved yet"
 }
 
 # A crate has ended: counts it, and prints its line unless it had been proved before.

@@ -1,6 +1,6 @@
 #!/bin/sh
 # Builds the library a second time, in another folder, and compares the two archives byte for byte. It begins from nothing: every
-# proof is checked again, some TODO-GATE minutes. With --proved the other folder takes over the crates that are proved here, and only
+# proof is checked again, some five to ten minutes. With --proved the other folder takes over the crates that are proved here, and only
 # the archive is made anew.
 # No library of a proved crate has this folder's path in it, so the second build uses the same bytes either way; that is looked at too.
 #
