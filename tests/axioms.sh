@@ -62,4 +62,4 @@ for name in $(sed -n 's/^\([a-z0-9_]*\)[^#]*:.*/\1/p' crates.txt); do
     programs="$programs, $name $n"
     [ -z "$each" ] || echo "program $name: $n"
 done
-echo "axioms: none in the archives${archives#,}; in programs, for C calls for memory, files and streams:${programs#,}"
+echo "axioms: none in the archives${archives#,}; in programs, for C calls for files and streams:${programs#,}"
