@@ -1,2 +1,2 @@
--- AcceptLaws: what Accept and Seal answer on each of their ways out.
+-- AcceptLaws: a transaction that may be held, and what Seal answers on each of its ways out.
 pub mod AcceptLaws

@@ -1,13 +1,13 @@
 -- Counter mode: a block more, its length, and that it undoes itself.
 -- Assumes nothing.
 use mathlib.Core.Path.{◌≡◌, refl, sym, ap, ap₂, ◌∙◌}
-use mathlib.Core.List.{List, [], ◌∷◌, ◌++◌, append_assoc, append-nil}
-use Prim.Native.Nat.{ℕ, zero, suc, ◌+◌, ◌-◌, ◌*◌, ◌/◌, ◌%◌, ◌^◌, ◌<◌, ◌≤◌, zero-le, suc-le-suc}
-use native.Mathlib.Nat.{not-suc-le-zero, le_of_suc-le-suc, le_trans, le_of_eq, suc-mul}
+use mathlib.Core.List.{List, [], ◌∷◌, ◌++◌, append_assoc}
+use Prim.Native.Nat.{ℕ, zero, suc, ◌+◌, ◌-◌, ◌*◌, ◌/◌, ◌<◌, ◌≤◌, zero-le, suc-le-suc}
+use native.Mathlib.Nat.{not-suc-le-zero, le_of_suc-le-suc, le_trans, suc-mul}
 use native.Mathlib.Omega.{arith}
 use lib.Bits.{bit_xor}
 use lib.ListN.{length, take, drop, length-append, length-take, length-drop, take-append-drop, drop_of_length-le}
-use lib.Seq.{take_all, take-append-add, drop-append-add, length-take-le}
+use lib.Seq.{take-append-add, drop-append-add, length-take-le}
 use Rattle.octets.specs.Lists.{over}
 use Rattle.octets.specs.Blocks.{block_count}
 use Rattle.octets.specs.Bytes.{bytes_of, padded, xor_bytes}
@@ -16,10 +16,6 @@ use Rattle.octets.proofs.CopyLaws.{over_xor}
 use Rattle.aes.specs.Cipher.{cipher, add_round_key}
 use Rattle.octets.proofs.XorLaws.{xor_cancel}
 use Rattle.aes.specs.Counter.{inc32, gctr_blocks, gctr}
-
-pub next_words : (h l : ℕ) → l < 2 ^ 64 → h * 2 ^ 64 + (l / 2 ^ 32 * 2 ^ 32 + (l % 2 ^ 32 + 1) % 2 ^ 32) ≡ inc32 (h * 2 ^ 64 + l)
-unfolding inc32
-next_words h l hl = omega arith
 
 -- ---- sums of strings
 

@@ -1,5 +1,5 @@
 -- Laws of the round table, of columns, of the rounds and of counter mode.
-pub mod RoundTable
+pub mod TableLaws
 pub mod ColumnLaws
 pub mod MixLaws
 pub mod RoundLaws

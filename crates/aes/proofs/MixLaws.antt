@@ -1,16 +1,14 @@
 -- A column by the round table.
 -- Assumes nothing.
-use mathlib.Core.Path.{◌≡◌, refl, sym, ap, ◌∙◌}
+use mathlib.Core.Path.{◌≡◌, ap, ◌∙◌}
 use mathlib.Core.List.{List, [], ◌∷◌}
 use Prim.Native.Nat.{ℕ, ◌+◌, ◌*◌, ◌/◌, ◌%◌, ◌^◌, ◌<◌}
-use native.Mathlib.Nat.{mod-lt}
 use native.Mathlib.Omega.{arith}
-use lib.Dec.{lit<}
 use lib.Pow.{high, low}
 use lib.ListN.{get_or}
 use Rattle.aes_key.specs.Gf.{◌⊕◌, ◌•◌}
 use Rattle.aes_key.specs.Sbox.{sbox}
-use Rattle.aes_key.specs.Words.{word, byte0, byte1, byte2, byte3}
+use Rattle.aes_key.specs.Words.{word}
 use Rattle.aes_key.proofs.GfLaws.{xor8, two_lt, three_lt}
 use Rattle.aes_key.proofs.SboxLaws.{sbox_lt}
 use Rattle.aes.specs.Cipher.{column, mix_column}

@@ -9,6 +9,7 @@
 ghost use Rattle.std.specs.Prelude.{◌≡◌, [], ◌∷◌, ◌<◌};
 ghost use Rattle.octets.specs.Blocks.{num};
 ghost use Rattle.octets.specs.Bytes.{bytes_of};
+ghost use Rattle.octets.specs.Lists.{at};
 ghost use Rattle.aes_key.specs.Sbox.{sbox};
 ghost use Rattle.aes_key.specs.Words.{byte0, byte1, byte2, byte3};
 ghost use Rattle.aes.specs.Cipher.{column, sub_bytes, shift_rows, mix_column, mix_columns, add_round_key, round_key, cipher};
@@ -24,6 +25,63 @@ pub struct Columns {
     pub b: u32,
     pub c: u32,
     pub d: u32,
+}
+
+// The state of a block.
+impl From<Block> for Columns {
+    ghost from_gives = { λ b s. state s ≡ bytes_of 16 (num b) };
+
+    fn from(b: Block) -> Columns {
+        Columns {
+            a: (b.hi / 0x1_0000_0000) as u32,
+            b: (b.hi % 0x1_0000_0000) as u32,
+            c: (b.lo / 0x1_0000_0000) as u32,
+            d: (b.lo % 0x1_0000_0000) as u32,
+        }
+    }
+}
+
+// The block of a state.
+impl From<Columns> for Block {
+    ghost from_gives = { λ s b. bytes_of 16 (num b) ≡ state s };
+
+    fn from(s: Columns) -> Block {
+        Block {
+            hi: (s.a as u64) * 0x1_0000_0000 + s.b as u64,
+            lo: (s.c as u64) * 0x1_0000_0000 + s.d as u64,
+        }
+    }
+}
+
+impl Columns {
+    // AddRoundKey, with the key of round r.
+    fn add_key(self, w: &[u32; 44], r: usize) -> Columns
+        requires { r < 11 }
+        ensures { state result ≡ add_round_key (state self) (round_key w.now r) }
+    {
+        Columns {
+            a: self.a ^ w[4 * r],
+            b: self.b ^ w[4 * r + 1],
+            c: self.c ^ w[4 * r + 2],
+            d: self.d ^ w[4 * r + 3],
+        }
+    }
+
+    // ShiftRows, and f of the rows of each column that it makes.
+    fn shifted<F: Fn(u32, u32, u32, u32) -> u32>(self, f: F) -> Columns
+        requires { F.IsAlwaysCallable f }
+        ensures a { F.post f self.a self.b self.c self.d result.a }
+        ensures b { F.post f self.b self.c self.d self.a result.b }
+        ensures c { F.post f self.c self.d self.a self.b result.c }
+        ensures d { F.post f self.d self.a self.b self.c result.d }
+    {
+        Columns {
+            a: f(self.a, self.b, self.c, self.d),
+            b: f(self.b, self.c, self.d, self.a),
+            c: f(self.c, self.d, self.a, self.b),
+            d: f(self.d, self.a, self.b, self.c),
+        }
+    }
 }
 
 // The round table: at each byte the column that it gives in row 0, twice.
@@ -293,118 +351,90 @@ fn round_table() -> [u64; 256]
     TE
 }
 
-// One column of a state after SubBytes, ShiftRows and MixColumns: row 0 from a, row 1 from b, and so on.
-fn mixed(te: &[u64; 256], a: u32, b: u32, c: u32, d: u32) -> u32
-    requires { IsRound te.now }
-    ensures { column result ≡ mix_column (sbox (byte0 a)) (sbox (byte1 b)) (sbox (byte2 c)) (sbox (byte3 d)) }
-{
-    let w = te[(a / 0x100_0000 % 256) as usize];
-    let x = te[(b / 0x1_0000 % 256) as usize];
-    let y = te[(c / 0x100 % 256) as usize];
-    let z = te[(d % 256) as usize];
-    let p = (w % 0x1_0000_0000) as u32;
-    let q = (x / 0x100 % 0x1_0000_0000) as u32;
-    let r = (y / 0x1_0000 % 0x1_0000_0000) as u32;
-    let s = (z / 0x100_0000 % 0x1_0000_0000) as u32;
-    p ^ q ^ r ^ s
+// The round table as the rounds look bytes up in it.
+#[derive(Drop)]
+struct RoundTable {
+    table: [u64; 256],
+    ghost is_round: { IsRound table },
 }
 
-// The same without MixColumns.
-fn subbed(te: &[u64; 256], a: u32, b: u32, c: u32, d: u32) -> u32
-    requires { IsRound te.now }
-    ensures { column result ≡ sbox (byte0 a) ∷ sbox (byte1 b) ∷ sbox (byte2 c) ∷ sbox (byte3 d) ∷ [] }
-{
-    let w = te[(a / 0x100_0000 % 256) as usize];
-    let x = te[(b / 0x1_0000 % 256) as usize];
-    let y = te[(c / 0x100 % 256) as usize];
-    let z = te[(d % 256) as usize];
-    let p = (w / 0x100 % 256) as u32;
-    let q = (x / 0x100 % 256) as u32;
-    let r = (y / 0x100 % 256) as u32;
-    let s = (z / 0x100 % 256) as u32;
-    ((p * 256 + q) * 256 + r) * 256 + s
-}
-
-// Round r.
-fn round(te: &[u64; 256], w: &[u32; 44], r: usize, s: Columns) -> Columns
-    requires round { IsRound te.now }
-    requires r_bound { r < 11 }
-    ensures { state result ≡ add_round_key (mix_columns (shift_rows (sub_bytes (state s)))) (round_key w.now r) }
-{
-    let a = mixed(te, s.a, s.b, s.c, s.d);
-    let b = mixed(te, s.b, s.c, s.d, s.a);
-    let c = mixed(te, s.c, s.d, s.a, s.b);
-    let d = mixed(te, s.d, s.a, s.b, s.c);
-    Columns {
-        a: a ^ w[4 * r],
-        b: b ^ w[4 * r + 1],
-        c: c ^ w[4 * r + 2],
-        d: d ^ w[4 * r + 3],
+impl RoundTable {
+    fn new() -> RoundTable {
+        RoundTable {
+            table: round_table(),
+        }
     }
-}
 
-// The last round.
-fn last_round(te: &[u64; 256], w: &[u32; 44], s: Columns) -> Columns
-    requires { IsRound te.now }
-    ensures { state result ≡ add_round_key (shift_rows (sub_bytes (state s))) (round_key w.now 10) }
-{
-    let a = subbed(te, s.a, s.b, s.c, s.d);
-    let b = subbed(te, s.b, s.c, s.d, s.a);
-    let c = subbed(te, s.c, s.d, s.a, s.b);
-    let d = subbed(te, s.d, s.a, s.b, s.c);
-    Columns {
-        a: a ^ w[40],
-        b: b ^ w[41],
-        c: c ^ w[42],
-        d: d ^ w[43],
+    // The entries that make one column of a state after SubBytes and ShiftRows: row 0 from a, row 1 from b, and so on.
+    fn entries(&self, a: u32, b: u32, c: u32, d: u32) -> [u64; 4]
+        ensures { let t = self.now.table in result ≡ at t (byte0 a) ∷ at t (byte1 b) ∷ at t (byte2 c) ∷ at t (byte3 d) ∷ [] }
+    {
+        [
+            self.table[(a / 0x100_0000 % 256) as usize],
+            self.table[(b / 0x1_0000 % 256) as usize],
+            self.table[(c / 0x100 % 256) as usize],
+            self.table[(d % 256) as usize],
+        ]
     }
-}
 
-// The state before the first round.
-fn whitened(w: &[u32; 44], b: Block) -> Columns
-    ensures { state result ≡ add_round_key (bytes_of 16 (num b)) (round_key w.now 0) }
-{
-    let p = (b.hi / 0x1_0000_0000) as u32;
-    let q = (b.hi % 0x1_0000_0000) as u32;
-    let r = (b.lo / 0x1_0000_0000) as u32;
-    let s = (b.lo % 0x1_0000_0000) as u32;
-    Columns {
-        a: p ^ w[0],
-        b: q ^ w[1],
-        c: r ^ w[2],
-        d: s ^ w[3],
+    // That column after MixColumns too.
+    fn mixed(&self, a: u32, b: u32, c: u32, d: u32) -> u32
+        ensures { column result ≡ mix_column (sbox (byte0 a)) (sbox (byte1 b)) (sbox (byte2 c)) (sbox (byte3 d)) }
+    {
+        let [w, x, y, z] = self.entries(a, b, c, d);
+        let p = (w % 0x1_0000_0000) as u32;
+        let q = (x / 0x100 % 0x1_0000_0000) as u32;
+        let r = (y / 0x1_0000 % 0x1_0000_0000) as u32;
+        let s = (z / 0x100_0000 % 0x1_0000_0000) as u32;
+        p ^ q ^ r ^ s
     }
-}
 
-// The block of a state.
-fn block_of(s: Columns) -> Block
-    ensures { bytes_of 16 (num result) ≡ state s }
-{
-    Block {
-        hi: (s.a as u64) * 0x1_0000_0000 + s.b as u64,
-        lo: (s.c as u64) * 0x1_0000_0000 + s.d as u64,
+    // The column itself.
+    fn subbed(&self, a: u32, b: u32, c: u32, d: u32) -> u32
+        ensures { column result ≡ sbox (byte0 a) ∷ sbox (byte1 b) ∷ sbox (byte2 c) ∷ sbox (byte3 d) ∷ [] }
+    {
+        let [w, x, y, z] = self.entries(a, b, c, d);
+        aes_key::word_of(
+            (w / 0x100 % 256) as u8,
+            (x / 0x100 % 256) as u8,
+            (y / 0x100 % 256) as u8,
+            (z / 0x100 % 256) as u8,
+        )
     }
-}
 
-// The ciphertext of a block, with the round table lent.
-fn encrypt_by(te: &[u64; 256], w: &[u32; 44], b: Block) -> Block
-    requires { IsRound te.now }
-    ensures { bytes_of 16 (num result) ≡ cipher w.now (bytes_of 16 (num b)) }
-{
-    let mut s = whitened(w, b);
-    for r in 1..10 {
-        let t = round(te, w, r, s);
-        s = t;
+    // Round r.
+    fn round(&self, w: &[u32; 44], r: usize, s: Columns) -> Columns
+        requires { r < 11 }
+        ensures { state result ≡ add_round_key (mix_columns (shift_rows (sub_bytes (state s)))) (round_key w.now r) }
+    {
+        s.shifted(|a, b, c, d| self.mixed(a, b, c, d)).add_key(w, r)
     }
-    block_of(last_round(te, w, s))
+
+    // The last round.
+    fn last_round(&self, w: &[u32; 44], s: Columns) -> Columns
+        ensures { state result ≡ add_round_key (shift_rows (sub_bytes (state s))) (round_key w.now 10) }
+    {
+        s.shifted(|a, b, c, d| self.subbed(a, b, c, d))
+            .add_key(w, 10)
+    }
+
+    // The ciphertext of a block.
+    fn encrypt(&self, w: &[u32; 44], b: Block) -> Block
+        ensures { bytes_of 16 (num result) ≡ cipher w.now (bytes_of 16 (num b)) }
+    {
+        let mut s = Columns::from(b).add_key(w, 0);
+        for r in 1..10 {
+            s = self.round(w, r, s);
+        }
+        Block::from(self.last_round(w, s))
+    }
 }
 
 // The ciphertext of a block under a key schedule.
 pub fn encrypt(w: &[u32; 44], b: Block) -> Block
     ensures { bytes_of 16 (num result) ≡ cipher w.now (bytes_of 16 (num b)) }
 {
-    let te = round_table();
-    encrypt_by(&te, w, b)
+    RoundTable::new().encrypt(w, b)
 }
 
 // The incrementing function on the last 32 bits.
@@ -418,18 +448,18 @@ pub fn next(b: Block) -> Block
     }
 }
 
-// Counter mode over s in its place, from the counter block icb.
+// Counter mode over s in its place, from the counter block icb. The blocks go by their numbers: after a loop over `chunks_mut` a
+// proof knows nothing of the slice but its length.
 pub fn counter(w: &[u32; 44], icb: Block, s: &mut [u8])
     ensures { s.new ≡ gctr (cipher w.now) (num icb) s.old }
 {
-    let te = round_table();
+    let table = RoundTable::new();
     let mut cb = icb;
-    let mut at: usize = 0;
-    while at < s.len() {
-        let mask = encrypt_by(&te, w, cb);
-        let text = octets::first_block(&s[at..]);
-        octets::put_block(&mut s[at..], octets::add(text, mask));
+    for i in 0..s.len().div_ceil(16) {
+        let mask = table.encrypt(w, cb);
+        let block = &mut s[16 * i..];
+        let text = octets::first_block(block);
+        octets::put_block(block, octets::add(text, mask));
         cb = next(cb);
-        at += 16;
     }
 }

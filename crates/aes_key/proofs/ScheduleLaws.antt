@@ -6,21 +6,25 @@ use Prim.Native.Nat.{ℕ, zero, suc, ◌+◌, ◌-◌, ◌*◌, ◌/◌, ◌%◌
 use native.Mathlib.Numerals.{add-one}
 use native.Mathlib.Omega.{arith}
 use lib.Pow.{shr-shr, shr_mod}
-use lib.ListN.{length, take, set, get_or, length-set}
+use Rattle.std.specs.Int.Bits.{bit_or}
+use Rattle.std.proofs.lemmas.Nat.{or_shifted}
+use lib.ListN.{length, take, set}
 use borrow.Author.Tests.{eq-eqb, ne_eqb}
 use lib.Seq.{get_or-take, take-suc-set, take_all}
 use Rattle.octets.specs.Lists.{at}
 use Rattle.aes_key.specs.Gf.{◌⊕◌}
-use Rattle.aes_key.specs.Words.{word, byte0, byte1, byte2, byte3}
+use Rattle.aes_key.specs.Words.{word}
 use Rattle.aes_key.specs.Schedule.{rcon, rcon_word, rot_word, sub_word, temp, next_word, key_words, expand, key_expansion}
 
-pub rot_is : (w : ℕ) → w < 4294967296 → w % 16777216 * 256 + w / 16777216 ≡ rot_word w
+-- the code turns the word: its first byte goes to the end
+pub rot_is : (w : ℕ) → w < 4294967296 → bit_or (w * 256 % 4294967296) (w / 16777216) ≡ rot_word w
 unfolding rot_word
 rot_is w h =
     let e1 : w / 256 / 256 ≡ w / 65536 = shr-shr w 8 8 in
     let e2 : w / 65536 / 256 ≡ w / 16777216 = shr-shr w 16 8 in
     let e3 : w / 16777216 % 256 ≡ w / 16777216 = shr_mod 8 24 h in
-    omega arith
+    let e4 : w * 256 % 4294967296 ≡ w % 16777216 * 256 = omega arith in
+    rw (e4, or_shifted (w % 16777216) 8 (w / 16777216) (omega arith)) (omega arith)
 
 -- the code's word i, of words i - 1 and i - 4
 module _ (w : List ℕ) (i : ℕ) where

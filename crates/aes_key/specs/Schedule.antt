@@ -1,6 +1,6 @@
 -- The key expansion: FIPS 197, section 5.2, for Nk = 4 and Nr = 10. A key is a list of 16 bytes, a key schedule a list of 44 words.
 -- Assumes nothing.
-use Rattle.std.specs.Prelude.{ℕ, zero, suc, ◌+◌, ◌-◌, ◌*◌, ◌/◌, ◌%◌, ◌<◌, ◌≡◌, cond, List, [], ◌∷◌, ◌++◌, eqb}
+use Rattle.std.specs.Prelude.{ℕ, zero, suc, ◌+◌, ◌-◌, ◌/◌, ◌%◌, ◌<◌, ◌≡◌, cond, List, [], ◌∷◌, ◌++◌, eqb}
 use Rattle.octets.specs.Lists.{at}
 use Rattle.aes_key.specs.Gf.{◌⊕◌, x_times}
 use Rattle.aes_key.specs.Sbox.{sbox}

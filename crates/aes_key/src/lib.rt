@@ -37,14 +37,6 @@ pub fn sbox_table() -> [u8; 256]
     SBOX
 }
 
-// A byte's entry in a table that is the S-box.
-fn sub(t: &[u8; 256], x: u8) -> u8
-    requires { IsSbox t.now }
-    ensures { result ≡ sbox x }
-{
-    t[x as usize]
-}
-
 // The ten round constants. Each is twice the one before, in GF(2^8).
 const RCON: [u8; 10] = [0x01, 0x02, 0x04, 0x08, 0x10, 0x20, 0x40, 0x80, 0x1b, 0x36];
 
@@ -59,45 +51,64 @@ fn round_constants() -> [u8; 10]
 pub fn word_of(a: u8, b: u8, c: u8, d: u8) -> u32
     ensures { result ≡ word a b c d }
 {
-    (((a as u32) * 256 + (b as u32)) * 256 + (c as u32)) * 256 + (d as u32)
+    u32::from_be_bytes([a, b, c, d])
 }
 
 // RotWord.
 fn rot_word(w: u32) -> u32
     ensures { result ≡ rot_word w }
 {
-    w % 0x100_0000 * 0x100 + w / 0x100_0000
+    w.rotate_left(8)
 }
 
-// SubWord.
-fn sub_word(t: &[u8; 256], w: u32) -> u32
-    requires { IsSbox t.now }
-    ensures { result ≡ sub_word w }
-{
-    let a = sub(t, (w / 0x100_0000 % 256) as u8);
-    let b = sub(t, (w / 0x1_0000 % 256) as u8);
-    let c = sub(t, (w / 0x100 % 256) as u8);
-    let d = sub(t, (w % 256) as u8);
-    word_of(a, b, c, d)
+// The constant tables that the expansion looks bytes up in. They are taken once a call: a constant array costs a copy
+// wherever it is named.
+#[derive(Drop)]
+struct Tables {
+    sbox: [u8; 256],
+    rcon: [u8; 10],
+    ghost is_sbox: { IsSbox sbox },
+    ghost is_rcon: { IsRcon rcon },
 }
 
-// Word i of the schedule, from the words before it.
-fn next_word(t: &[u8; 256], rc: &[u8; 10], w: &[u32; 44], i: usize) -> u32
-    requires sbox { IsSbox t.now }
-    requires rcon { IsRcon rc.now }
-    requires in_range { (4 ≤ i) × (i < 44) }
-    ensures { result ≡ next_word w.now i }
-{
-    let last = w[i - 1];
-    let back = w[i - 4];
-    if i % 4 == 0 {
-        let constant = word_of(rc[i / 4 - 1], 0, 0, 0);
-        return back ^ (sub_word(t, rot_word(last)) ^ constant);
+impl Tables {
+    fn new() -> Tables {
+        Tables {
+            sbox: sbox_table(),
+            rcon: round_constants(),
+        }
     }
-    back ^ last
+
+    // SubWord.
+    fn sub_word(&self, w: u32) -> u32
+        ensures { result ≡ sub_word w }
+    {
+        let [a, b, c, d] = w.to_be_bytes();
+        word_of(
+            self.sbox[a as usize],
+            self.sbox[b as usize],
+            self.sbox[c as usize],
+            self.sbox[d as usize],
+        )
+    }
+
+    // Word i of the schedule, from the words before it.
+    fn next_word(&self, w: &[u32; 44], i: usize) -> u32
+        requires { (4 ≤ i) × (i < 44) }
+        ensures { result ≡ next_word w.now i }
+    {
+        let last = w[i - 1];
+        let back = w[i - 4];
+        if i % 4 == 0 {
+            let constant = word_of(self.rcon[i / 4 - 1], 0, 0, 0);
+            return back ^ (self.sub_word(rot_word(last)) ^ constant);
+        }
+        back ^ last
+    }
 }
 
-// A schedule whose first four words are the key's.
+// A schedule whose first four words are the key's. They are written out as in the standard's definition: a loop over four
+// is no plainer.
 fn start(key: [u8; 16]) -> [u32; 44]
     ensures { take 4 result ≡ key_words key }
 {
@@ -113,12 +124,10 @@ fn start(key: [u8; 16]) -> [u32; 44]
 pub fn key_expansion(key: [u8; 16]) -> [u32; 44]
     ensures { result ≡ key_expansion key }
 {
-    let t = sbox_table();
-    let rc = round_constants();
+    let tables = Tables::new();
     let mut w = start(key);
     for i in 4..44 {
-        let v = next_word(&t, &rc, &w, i);
-        w[i] = v;
+        w[i] = tables.next_word(&w, i);
     }
     w
 }

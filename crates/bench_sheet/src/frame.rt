@@ -1,81 +1,93 @@
 // A frame of the wired bus: hexadecimal 68 L L 68, then L bytes, their sum, and 16. It stands in the log's place.
+use super::buffer::Buffer;
 use super::script::Command;
-use super::words::{ADD, CUT, FILLER, FRAME, MORE, REPLY, SET, SUM};
-use super::{bytes, script};
+use super::words::Word;
+use std::alloc::{AllocError, Global};
 
-fn sum_of(s: &[u8]) -> u8 {
-    let mut sum = 0u8;
-    for i in 0..s.len() {
-        let more = std::num::wrapping_add_u8(sum, s[i]);
-        sum = more;
+// 68 L L 68, C, address, CI, and the fixed header, whose byte at place 14 is the medium.
+const HEAD: [u8; 19] =
+    *b"\x68\x00\x00\x68\x08\x05\x72\x78\x56\x34\x12\x24\x40\x01\x00\x55\x00\x00\x00";
+
+const MEDIUM_PLACE: usize = 14;
+
+// The most filler that a command puts in.
+const MOST_FILLER: usize = 512;
+
+impl Buffer {
+    // A place so many bytes before its end. Where it is shorter than that, there is none: the number is past every place.
+    fn from_end(&self, n: usize) -> usize {
+        self.len.wrapping_sub(n)
     }
-    sum
-}
 
-// The sum of a frame of n bytes put right.
-fn add_up(frame: &mut [u8], n: usize) {
-    let end = std::num::wrapping_sub_usize(n, 2);
-    let sum = sum_of(script::part(frame, 4, end));
-    bytes::set(frame, end, sum);
-}
-
-// Both L, the sum and the stop byte of a frame of n bytes put right.
-fn close(frame: &mut [u8], n: usize) {
-    let l = (std::num::wrapping_sub_usize(n, 6) % 256) as u8;
-    bytes::set(frame, 1, l);
-    bytes::set(frame, 2, l);
-    add_up(frame, n);
-    bytes::set(frame, std::num::wrapping_sub_usize(n, 1), 0x16);
-}
-
-// Records put behind those of a frame that had n bytes.
-fn put_more(records: &[u8], frame: &mut [u8], n: usize, after: usize) {
-    let end = std::num::wrapping_sub_usize(n, 2);
-    bytes::put(records, frame, end);
-    close(frame, after);
-}
-
-// 68 L L 68, C, address, CI, the fixed header with its medium, and records.
-fn reply(medium: u8, records: &[u8], frame: &mut [u8], n: usize) {
-    let head = b"\x68\x00\x00\x68\x08\x05\x72\x78\x56\x34\x12\x24\x40\x01\x00\x55\x00\x00\x00";
-    bytes::put(head, frame, 0);
-    bytes::set(frame, 14, medium);
-    bytes::put(records, frame, 19);
-    close(frame, n);
-}
-
-// How long a frame of n bytes is after a command.
-pub fn len_after(n: usize, m: Command) -> usize {
-    let given = script::count_of(m);
-    let k = m.a as usize;
-    let word = m.word;
-    match word {
-        FRAME => given,
-        REPLY => std::num::wrapping_add_usize(given, 20),
-        MORE | ADD => std::num::wrapping_add_usize(n, given),
-        FILLER => std::num::wrapping_add_usize(n, k),
-        CUT => std::num::wrapping_sub_usize(n, k),
-        _ => n,
+    // The sum of the frame put right.
+    fn add_up(&mut self) {
+        let end = self.from_end(2);
+        let sum = self
+            .part(4, end)
+            .iter()
+            .fold(0u8, |sum, b| sum.wrapping_add(*b));
+        self.set(end, sum);
     }
-}
 
-// What a command makes of a frame of n bytes.
-pub fn frames(s: &[u8], m: Command, n: usize, frame: &mut [u8]) {
-    let after = len_after(n, m);
-    let all = script::bytes_of(s, m);
-    let given = bytes::first(&all, script::count_of(m));
-    let one = octets::byte_at(given, 0);
-    let rest = script::part(given, 1, given.len());
-    let filler = [0x2fu8; 512];
-    let word = m.word;
-    match word {
-        FRAME => bytes::put(given, frame, 0),
-        REPLY => reply(one, rest, frame, after),
-        MORE => put_more(given, frame, n, after),
-        FILLER => put_more(bytes::first(&filler, m.a as usize), frame, n, after),
-        SET => bytes::put(rest, frame, one as usize),
-        SUM => add_up(frame, n),
-        ADD => bytes::put(given, frame, n),
-        _ => (),
+    // Both L, the sum and the stop byte put right.
+    fn close(&mut self) {
+        let l = (self.from_end(6) % 256) as u8;
+        self.put(1, &[l, l]);
+        self.add_up();
+        self.set(self.from_end(1), 0x16);
+    }
+
+    // These bytes, and nothing else.
+    fn hold(&mut self, given: &[u8], n: usize) {
+        self.put(0, given);
+        self.len = n;
+    }
+
+    // A frame of a medium, the first byte given, and records.
+    fn reply(&mut self, given: &[u8], n: usize) {
+        let (medium, records) = given.split_first().unwrap_or((&0, given));
+        self.put(0, &HEAD);
+        self.set(MEDIUM_PLACE, *medium);
+        self.put(HEAD.len(), records);
+        self.len = n.wrapping_add(HEAD.len() + 1);
+        self.close();
+    }
+
+    // Records behind those that it has.
+    fn more(&mut self, records: &[u8], n: usize) {
+        self.put(self.from_end(2), records);
+        self.grow(n);
+        self.close();
+    }
+
+    // So many bytes of filler behind them.
+    fn filler(&mut self, n: usize) {
+        self.fill(self.from_end(2), n.min(MOST_FILLER), 0x2f);
+        self.grow(n);
+        self.close();
+    }
+
+    // Its bytes from a place on, the first byte given.
+    fn change(&mut self, given: &[u8]) {
+        if let Some((place, bytes)) = given.split_first() {
+            self.put(*place as usize, bytes);
+        }
+    }
+
+    // What a command makes of it. It grows by what the command says, also where that is more than is put in.
+    pub fn frames(&mut self, alloc: Global, m: Command<'_>) -> Result<(), AllocError> {
+        let n = m.count();
+        match m.word {
+            Word::Frame => self.hold(m.bytes(alloc)?.as_slice(), n),
+            Word::Reply => self.reply(m.bytes(alloc)?.as_slice(), n),
+            Word::More => self.more(m.bytes(alloc)?.as_slice(), n),
+            Word::Filler => self.filler(m.size()),
+            Word::Set => self.change(m.bytes(alloc)?.as_slice()),
+            Word::Sum => self.add_up(),
+            Word::Add => self.add(m.bytes(alloc)?.as_slice(), n),
+            Word::Cut => self.len = self.from_end(m.size()),
+            _ => {}
+        }
+        Ok(())
     }
 }

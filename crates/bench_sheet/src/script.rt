@@ -4,170 +4,132 @@
 //     new; serving; accept 0 10: accept, one in service
 //     reply 07 0C 13 78 56 34 12; from-bus 16 7 100: from-bus, a water meter
 //
-// What begins with # is passed over, to the end of its line. A number that is not there is 0.
-use super::words;
+// What begins with # is passed over, to the end of its line. A number that is not there is 0. A script is bytes, of which each
+// part of a command takes those of its kind: what is of no kind is not refused, it ends a part.
+use super::words::Word;
+use std::alloc::{AllocError, Global};
+
+// How many of a command's bytes are read.
+const MOST_BYTES: usize = 256;
 
 #[derive(Clone, Copy)]
-pub struct Command {
-    // The number of its word.
-    pub word: u8,
+pub struct Command<'a> {
+    pub word: Word,
     // The numbers.
     pub a: u64,
     pub b: u64,
     pub c: u64,
-    // What they or the bytes are written in, from its first byte to the one behind it.
-    pub given: usize,
-    pub stop: usize,
-    // The name, from its first byte to the one behind it.
-    pub name: usize,
-    pub end: usize,
+    // What they or the bytes are written in.
+    given: &'a [u8],
+    // What stands before what it shows.
+    pub name: &'a [u8],
 }
 
-// The bytes that a part of a command is made of.
-const LETTERS: u8 = 0;
+// ---- the kinds of bytes
 
-const DIGITS: u8 = 1;
-
-const BLANKS: u8 = 2;
-
-const COLONS: u8 = 3;
-
-const GIVEN: u8 = 4;
-
-const ANY: u8 = 5;
-
-fn between(low: u8, x: u8, high: u8) -> bool {
-    (low <= x) & (x <= high)
+fn letter(b: u8) -> bool {
+    b.is_ascii_alphabetic() || b == b'-'
 }
 
-fn letter(x: u8) -> bool {
-    between(b'a', x, b'z') | between(b'A', x, b'Z') | (x == b'-')
+fn digit(b: u8) -> bool {
+    b.is_ascii_digit()
 }
 
-fn digit(x: u8) -> bool {
-    between(b'0', x, b'9')
+fn blank(b: u8) -> bool {
+    b == b' '
 }
 
-fn belongs(kind: u8, x: u8) -> bool {
-    match kind {
-        LETTERS => letter(x),
-        DIGITS => digit(x),
-        BLANKS => x == b' ',
-        COLONS => x == b':',
-        GIVEN => letter(x) | digit(x) | (x == b' '),
-        _ => x != b'\n',
-    }
+// The bytes of a kind at the start of a text, and what is behind them.
+fn run<F: Fn(u8) -> bool>(text: &[u8], kind: F) -> (&[u8], &[u8])
+    requires { F.IsAlwaysCallable kind }
+{
+    let n = text.iter().position(|b| !kind(*b)).unwrap_or(text.len());
+    text.split_at_checked(n).unwrap_or((text, b""))
 }
 
-// The first place from at on with a byte of another kind, or the end.
-fn past(kind: u8, s: &[u8], at: usize) -> usize {
-    for i in at..s.len() {
-        if !belongs(kind, s[i]) {
-            return i;
-        }
-    }
-    s.len()
-}
+// ---- numbers
 
-// A number with one digit more.
+// A number with one digit more. One that has 19 digits has no more of them.
 fn longer(n: u64, digit: u8) -> u64 {
     if 1_000_000_000_000_000_000 <= n {
-        return n;
-    }
-    n * 10 + (digit % 16) as u64
-}
-
-// The number that the digits of a part are.
-fn value(s: &[u8]) -> u64 {
-    let mut n = 0u64;
-    for i in 0..s.len() {
-        let m = longer(n, s[i]);
-        n = m;
-    }
-    n
-}
-
-// A number as a lane, a meter or a byte.
-pub fn byte_of(n: u64) -> u8 {
-    (n % 256) as u8
-}
-
-// A part of a slice, and the whole of it where there is no such part.
-pub fn part(s: &[u8], from: usize, to: usize) -> &[u8] {
-    if to < from {
-        return s;
-    }
-    if s.len() < to {
-        return s;
-    }
-    &s[from..to]
-}
-
-// Where a command ends whose numbers or bytes end at one place and whose name, if it has one, begins at another.
-fn end_of(s: &[u8], stop: usize, name: usize) -> usize {
-    if octets::byte_at(s, stop) == b';' {
-        return stop;
-    }
-    past(ANY, s, name)
-}
-
-// The command that begins at a place, or behind blanks there.
-pub fn command_at(s: &[u8], at: usize) -> Command {
-    let from = past(BLANKS, s, at);
-    let behind = past(LETTERS, s, from);
-    let a = past(BLANKS, s, behind);
-    let a_end = past(DIGITS, s, a);
-    let b = past(BLANKS, s, a_end);
-    let b_end = past(DIGITS, s, b);
-    let c = past(BLANKS, s, b_end);
-    let c_end = past(DIGITS, s, c);
-    let stop = past(GIVEN, s, a);
-    let name = past(BLANKS, s, past(COLONS, s, stop));
-    let end = end_of(s, stop, name);
-    Command {
-        word: words::number_of(part(s, from, behind)),
-        a: value(part(s, a, a_end)),
-        b: value(part(s, b, b_end)),
-        c: value(part(s, c, c_end)),
-        given: a,
-        stop,
-        name,
-        end,
+        n
+    } else {
+        n * 10 + (digit % 16) as u64
     }
 }
 
-pub fn name_of(s: &[u8], m: Command) -> &[u8] {
-    part(s, m.name, m.end)
+// The number at the start of a text, or behind blanks there, and what is behind it.
+fn number(text: &[u8]) -> (u64, &[u8]) {
+    let (_, text) = run(text, blank);
+    let (digits, rest) = run(text, digit);
+    (digits.iter().fold(0, |n, d| longer(n, *d)), rest)
 }
 
-// ---- bytes in hexadecimal, two digits each and a blank between them
-
-// How many a command gives.
-pub fn count_of(m: Command) -> usize {
-    let written = std::num::wrapping_sub_usize(m.stop, m.given);
-    std::num::wrapping_add_usize(written, 1) / 3
-}
-
+// A digit in hexadecimal.
 fn half(digit: u8) -> u8 {
     if digit < b'A' {
-        return digit % 16;
+        digit % 16
+    } else {
+        digit.wrapping_add(9) % 16
     }
-    digit % 16 + 9
 }
 
-fn byte_in(given: &[u8], i: usize) -> u8 {
-    let at = i % 256 * 3;
-    let high = half(octets::byte_at(given, at));
-    let low = half(octets::byte_at(given, at + 1));
-    high % 16 * 16 + low % 16
+// Where a command has its name, that and what is behind it: a semicolon stands before the next command.
+fn name(text: &[u8]) -> (&[u8], &[u8]) {
+    if text.starts_with(b";") {
+        return (b"", text);
+    }
+    let (_, text) = run(text, |b| b == b':');
+    let (_, text) = run(text, blank);
+    run(text, |b| b != b'\n')
 }
 
-// The bytes that a command gives, and zeros.
-pub fn bytes_of(s: &[u8], m: Command) -> [u8; 256] {
-    let given = part(s, m.given, m.stop);
-    let mut bytes = [0u8; 256];
-    for i in 0..256 {
-        bytes[i] = byte_in(given, i);
+impl<'a> Command<'a> {
+    // The command at the start of a script, if its word is one of the script's, and what is behind it and the byte that ends it.
+    pub fn first(script: &'a [u8]) -> (Option<Command<'a>>, &'a [u8]) {
+        let (_, text) = run(script, blank);
+        let (word, text) = run(text, letter);
+        let (_, text) = run(text, blank);
+        let (a, behind) = number(text);
+        let (b, behind) = number(behind);
+        let (c, _) = number(behind);
+        let (given, text) = run(text, |b| letter(b) || digit(b) || blank(b));
+        let (name, text) = name(text);
+        let command = Word::named(word).map(|word| Command {
+            word,
+            a,
+            b,
+            c,
+            given,
+            name,
+        });
+        (command, text.get(1..).unwrap_or(b""))
     }
-    bytes
+
+    // Its first number as a place or a length.
+    pub fn size(self) -> usize {
+        self.a as usize
+    }
+
+    // Its first number as a lane, a meter or a byte.
+    pub fn byte(self) -> u8 {
+        (self.a % 256) as u8
+    }
+
+    // How many bytes it gives: two digits each and a blank between them.
+    pub fn count(self) -> usize {
+        (self.given.len() + 1) / 3
+    }
+
+    // Those bytes, as many of them as are read.
+    pub fn bytes(self, alloc: Global) -> Result<Vec<u8>, AllocError> {
+        self.given
+            .chunks(3)
+            .filter_map(|digits| match digits {
+                [high, low, ..] => Some(half(*high) << 4 | half(*low)),
+                _ => None,
+            })
+            .take(MOST_BYTES)
+            .collect(alloc)
+    }
 }

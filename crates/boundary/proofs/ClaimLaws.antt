@@ -13,7 +13,7 @@ use borrow.Author.Tests.{eq-eqb}
 use Rattle.sealed.specs.Record.{Opened}
 use Rattle.table.specs.declared.Entry.{Entry}
 use Rattle.table.specs.declared.Table.{Table}
-use Rattle.protocol.specs.Said.{taken, Answered}
+use Rattle.protocol.specs.Said.{Answered}
 use Rattle.protocol.specs.Recover.{recover}
 use Rattle.protocol.specs.LatestOf.{LatestOf}
 use Rattle.protocol.specs.Claim as claim
@@ -27,7 +27,7 @@ use Rattle.protocol.specs.declared.Store.TheVariants as S
 use Rattle.protocol.proofs.Theorem.{demand_3}
 use Rattle.boundary.specs.Flat.{phase_number, phase_of, freeze}
 use Rattle.boundary.specs.Replies.{named, said_of, reply_of}
-use Rattle.boundary.specs.Run.{Call, Event, call, paviluko_recover, Returned, returned, loaded, World, new_world, settled, asked, event_of, after_reply, after_taken, resting, after_call, next, run, flat_state, flat_world, Honest}
+use Rattle.boundary.specs.Run.{Call, Event, call, paviluko_recover, Returned, returned, loaded, World, new_world, settled, asked, event_of, after_reply, after_taken, resting, after_call, next, flat_state, flat_world, Honest}
 use Rattle.boundary.specs.Claim.{TakenUnlessSpent, after, Listed, RunIsTheDefinitions, Claim, Demand3}
 use Rattle.boundary.specs.declared.FlatState.{FlatState}
 use Rattle.boundary.specs.declared.Said.{Said as SaidNumbers}

@@ -1,24 +1,24 @@
 // The collector's state and its answers as plain numbers, the form in which they cross to C.
 //
 // A C function can neither take nor give an enum. So the phase and the store that is due stand as numbers, and what a call
-// answers stands as its number, its store and its value. `freeze` writes a state down so, `thaw` reads it; a state whose
-// numbers are none that `freeze` writes is not known. The parts of the state that hold no enum cross as they are.
+// answers stands as its number, its store and its value: numbers for kinds and "0 for none" are the C interface. A state is
+// written down so and read by `From`; a state whose numbers are none that are written down is not known. The parts of the
+// state that hold no enum cross as they are.
 #![tactic(auto)]
 
 ghost use Rattle.std.specs.Prelude.{◌≡◌, cond, [], ◌∷◌};
-ghost use Rattle.octets.specs.Lists.{at};
-ghost use Rattle.protocol.specs.Said.{refused, number_of, values_of, shown, shown_as};
+ghost use Rattle.protocol.specs.Said.{refused, shown, shown_as};
 ghost use Rattle.bus.specs.Answer.{said_by};
 ghost use Rattle.heat.specs.Answer.{said_by as split_by};
 ghost use Rattle.heat.specs.Plain.{plain_by};
 ghost use Rattle.boundary.specs.Flat.{due_of, numbers, due_numbers, phase_of, phase_number, known_by, thaw, freeze};
 ghost use Rattle.boundary.specs.Replies.{named, said_of, reply_of, not_a_state};
 
-use bus::Heard;
-use heat::{Plain, Split};
+use bus::BusError;
+use heat::{NoRoom, SplitError};
 use protocol::{
     Answer, CheckpointStep, Due, Held, Journal, Outcome, Phase, Points, RecoverNumber, RecoverStep,
-    Refusal, State, Store, TruncateStep, Vault,
+    State, Store, TruncateStep, Vault,
 };
 use table::{TABLE_LEN, Table};
 use transaction::MIN_TEXT;
@@ -29,7 +29,7 @@ pub const EDITION: u64 = 5;
 // The store that is due: its kind, and the position, the lane and the checkpoint (0 the first, 1 the second) of a kind that
 // has them. What a kind does not have is 0.
 #[repr(C)]
-#[derive(Clone, Copy)]
+#[derive(Clone, Copy, Debug, PartialEq, Eq)]
 pub struct DueNumbers {
     pub position: u64,
     pub kind: u8,
@@ -54,7 +54,7 @@ pub struct FlatState {
 // What a call says: number 0 with the store that it names and the bytes that it put out, or 01's number with the value
 // returned with it.
 #[repr(C)]
-#[derive(Clone, Copy)]
+#[derive(Clone, Copy, Debug, PartialEq, Eq)]
 pub struct Said {
     pub value: u64,
     pub len: u64,
@@ -73,157 +73,125 @@ pub struct Reply {
 
 // ---- the store that is due, and the phase
 
-// 1 for true.
-fn bit(b: bool) -> u8
-    ensures { result ≡ cond b 1 0 }
-{
-    if b {
-        return 1;
-    }
-    0
-}
-
 // The due store of these numbers; nothing where the kind is none.
-pub fn due_of(d: DueNumbers) -> Due
-    ensures { result ≡ due_of d }
-{
-    let position = d.position;
-    let lane = d.lane;
-    let second = d.second == 1;
-    if d.kind == 1 {
-        return Due::Record;
-    }
-    if d.kind == 2 {
-        return Due::Checkpoint {
-            step: CheckpointStep::File,
-        };
-    }
-    if d.kind == 3 {
-        return Due::Checkpoint {
-            step: CheckpointStep::Version,
-        };
-    }
-    if d.kind == 4 {
-        return Due::Truncate {
-            position,
-            step: TruncateStep::R { lane },
-        };
-    }
-    if d.kind == 5 {
-        return Due::Truncate {
-            position,
-            step: TruncateStep::Delete,
-        };
-    }
-    if d.kind == 6 {
-        return Due::Recover {
-            step: RecoverStep::File { second },
-        };
-    }
-    if d.kind == 7 {
-        return Due::Recover {
-            step: RecoverStep::Number {
-                number: RecoverNumber::S { second },
+impl From<DueNumbers> for Due {
+    ghost from_gives = { λ d r. r ≡ due_of d };
+
+    #[tactic(auto, unfolding(crate::specs::Flat::due_of))]
+    fn from(d: DueNumbers) -> Due {
+        let position = d.position;
+        let lane = d.lane;
+        let second = d.second == 1;
+        match d.kind {
+            1 => Due::Record,
+            2 => Due::Checkpoint {
+                step: CheckpointStep::File,
             },
-        };
-    }
-    if d.kind == 8 {
-        return Due::Recover {
-            step: RecoverStep::Number {
-                number: RecoverNumber::N,
+            3 => Due::Checkpoint {
+                step: CheckpointStep::Version,
             },
-        };
-    }
-    if d.kind == 9 {
-        return Due::Recover {
-            step: RecoverStep::Number {
-                number: RecoverNumber::R { lane },
+            4 => Due::Truncate {
+                position,
+                step: TruncateStep::R { lane },
             },
-        };
-    }
-    if d.kind == 10 {
-        return Due::Recover {
-            step: RecoverStep::Number {
-                number: RecoverNumber::E,
+            5 => Due::Truncate {
+                position,
+                step: TruncateStep::Delete,
             },
-        };
-    }
-    if d.kind == 11 {
-        return Due::Recover {
-            step: RecoverStep::Number {
-                number: RecoverNumber::V { lane },
+            6 => Due::Recover {
+                step: RecoverStep::File { second },
             },
-        };
+            7 => Due::Recover {
+                step: RecoverStep::Number {
+                    number: RecoverNumber::S { second },
+                },
+            },
+            8 => Due::Recover {
+                step: RecoverStep::Number {
+                    number: RecoverNumber::N,
+                },
+            },
+            9 => Due::Recover {
+                step: RecoverStep::Number {
+                    number: RecoverNumber::R { lane },
+                },
+            },
+            10 => Due::Recover {
+                step: RecoverStep::Number {
+                    number: RecoverNumber::E,
+                },
+            },
+            11 => Due::Recover {
+                step: RecoverStep::Number {
+                    number: RecoverNumber::V { lane },
+                },
+            },
+            12 => Due::Recover {
+                step: RecoverStep::Empty,
+            },
+            _ => Due::Nothing,
+        }
     }
-    if d.kind == 12 {
-        return Due::Recover {
-            step: RecoverStep::Empty,
-        };
-    }
-    Due::Nothing
 }
 
 // The numbers of a kind, with what it has of the other fields.
-fn numbers(kind: u8, position: u64, lane: u8, second: u8) -> DueNumbers
-    ensures { result ≡ numbers kind position lane second }
+fn numbers(kind: u8, position: u64, lane: u8, second: bool) -> DueNumbers
+    ensures { result ≡ numbers kind position lane (cond second 1 0) }
 {
     DueNumbers {
         position,
         kind,
         lane,
-        second,
+        second: u8::from(second),
     }
 }
 
 // The numbers of a due store.
-pub fn due_numbers(d: Due) -> DueNumbers
-    ensures { result ≡ due_numbers d }
-{
-    match d {
-        Due::Nothing => numbers(0, 0, 0, 0),
-        Due::Record => numbers(1, 0, 0, 0),
-        Due::Checkpoint { step } => match step {
-            CheckpointStep::File => numbers(2, 0, 0, 0),
-            CheckpointStep::Version => numbers(3, 0, 0, 0),
-        },
-        Due::Truncate { position, step } => match step {
-            TruncateStep::R { lane } => numbers(4, position, lane, 0),
-            TruncateStep::Delete => numbers(5, position, 0, 0),
-        },
-        Due::Recover { step } => match step {
-            RecoverStep::File { second } => {
-                let s = bit(second);
-                numbers(6, 0, 0, s)
-            }
-            RecoverStep::Number { number } => match number {
-                RecoverNumber::S { second } => {
-                    let s = bit(second);
-                    numbers(7, 0, 0, s)
-                }
-                RecoverNumber::N => numbers(8, 0, 0, 0),
-                RecoverNumber::R { lane } => numbers(9, 0, lane, 0),
-                RecoverNumber::E => numbers(10, 0, 0, 0),
-                RecoverNumber::V { lane } => numbers(11, 0, lane, 0),
+impl From<Due> for DueNumbers {
+    ghost from_gives = { λ d r. r ≡ due_numbers d };
+
+    #[tactic(auto, unfolding(crate::specs::Flat::due_numbers))]
+    fn from(d: Due) -> DueNumbers {
+        match d {
+            Due::Nothing => numbers(0, 0, 0, false),
+            Due::Record => numbers(1, 0, 0, false),
+            Due::Checkpoint { step } => match step {
+                CheckpointStep::File => numbers(2, 0, 0, false),
+                CheckpointStep::Version => numbers(3, 0, 0, false),
             },
-            RecoverStep::Empty => numbers(12, 0, 0, 0),
-        },
+            Due::Truncate { position, step } => match step {
+                TruncateStep::R { lane } => numbers(4, position, lane, false),
+                TruncateStep::Delete => numbers(5, position, 0, false),
+            },
+            Due::Recover { step } => match step {
+                RecoverStep::File { second } => numbers(6, 0, 0, second),
+                RecoverStep::Number { number } => match number {
+                    RecoverNumber::S { second } => numbers(7, 0, 0, second),
+                    RecoverNumber::N => numbers(8, 0, 0, false),
+                    RecoverNumber::R { lane } => numbers(9, 0, lane, false),
+                    RecoverNumber::E => numbers(10, 0, 0, false),
+                    RecoverNumber::V { lane } => numbers(11, 0, lane, false),
+                },
+                RecoverStep::Empty => numbers(12, 0, 0, false),
+            },
+        }
     }
 }
 
-// The phase of a number; cold where it is none.
+// The phase of a number; cold where it is none. No `From`: `Phase` and `u8` are both declared elsewhere.
+#[tactic(auto, unfolding(crate::specs::Flat::phase_of))]
 pub fn phase_of(p: u8) -> Phase
     ensures { result ≡ phase_of p }
 {
-    if p == 2 {
-        return Phase::Recovering;
+    match p {
+        2 => Phase::Recovering,
+        3 => Phase::Serving,
+        _ => Phase::Cold,
     }
-    if p == 3 {
-        return Phase::Serving;
-    }
-    Phase::Cold
 }
 
 // The number of a phase.
+#[tactic(auto, unfolding(crate::specs::Flat::phase_number))]
 pub fn phase_number(p: Phase) -> u8
     ensures { result ≡ phase_number p }
 {
@@ -237,204 +205,86 @@ pub fn phase_number(p: Phase) -> u8
 // ---- the state
 
 // Whether a due store and a phase are written down so.
+#[tactic(auto, unfolding(crate::specs::Flat::known_by, crate::specs::Flat::due_known, crate::specs::Flat::same_due, crate::specs::Flat::phase_known))]
 pub fn known(d: DueNumbers, p: u8) -> bool
     ensures { result ≡ known_by d p }
 {
-    let due = due_of(d);
-    let e = due_numbers(due);
-    let phase = phase_of(p);
-    let q = phase_number(phase);
-    (e.position == d.position)
-        & (e.kind == d.kind)
-        & (e.lane == d.lane)
-        & (e.second == d.second)
-        & (q == p)
+    let due = DueNumbers::from(Due::from(d));
+    let phase = phase_number(phase_of(p));
+    (due == d) & (phase == p)
 }
 
 // The state that stands in these numbers.
-pub fn thaw(s: FlatState) -> State
-    ensures { result ≡ thaw s }
-{
-    let phase = phase_of(s.phase);
-    let due = due_of(s.due);
-    let vault = s.vault;
-    let table = s.table;
-    let journal = s.journal;
-    let points = s.points;
-    let held = s.held;
-    let key = s.key;
-    State {
-        vault,
-        phase,
-        due,
-        table,
-        journal,
-        points,
-        held,
-        key,
+impl From<FlatState> for State {
+    ghost from_gives = { λ s r. r ≡ thaw s };
+
+    #[tactic(auto, unfolding(crate::specs::Flat::thaw))]
+    fn from(s: FlatState) -> State {
+        let key = s.key;
+        State {
+            vault: s.vault,
+            phase: phase_of(s.phase),
+            due: Due::from(s.due),
+            table: s.table,
+            journal: s.journal,
+            points: s.points,
+            held: s.held,
+            key,
+        }
     }
 }
 
 // A state, written down.
-pub fn freeze(c: State) -> FlatState
-    ensures { result ≡ freeze c }
-{
-    let p = c.phase;
-    let d = c.due;
-    let phase = phase_number(p);
-    let due = due_numbers(d);
-    let vault = c.vault;
-    let table = c.table;
-    let journal = c.journal;
-    let points = c.points;
-    let held = c.held;
-    let key = c.key;
-    FlatState {
-        vault,
-        due,
-        table,
-        journal,
-        points,
-        held,
-        key,
-        phase,
+impl From<State> for FlatState {
+    ghost from_gives = { λ c r. r ≡ freeze c };
+
+    #[tactic(auto, unfolding(crate::specs::Flat::freeze))]
+    fn from(c: State) -> FlatState {
+        let key = c.key;
+        FlatState {
+            vault: c.vault,
+            due: DueNumbers::from(c.due),
+            table: c.table,
+            journal: c.journal,
+            points: c.points,
+            held: c.held,
+            key,
+            phase: phase_number(c.phase),
+        }
     }
 }
 
 // ---- what a call says
 
 // A store that is named, with so many bytes put out.
+#[tactic(auto, unfolding(crate::specs::Replies::named))]
 fn named(store: Store, len: u64) -> Said
     ensures { result ≡ named store len }
 {
-    match store {
-        Store::Nothing => Said {
-            value: 0,
-            len,
-            number: 0,
-            store: 0,
-            lane: 0,
-        },
-        Store::W { lane, value } => Said {
-            value,
-            len,
-            number: 0,
-            store: 1,
-            lane,
-        },
-        Store::V { lane, value } => Said {
-            value,
-            len,
-            number: 0,
-            store: 2,
-            lane,
-        },
-        Store::R { lane, value } => Said {
-            value,
-            len,
-            number: 0,
-            store: 3,
-            lane,
-        },
-        Store::E { value } => Said {
-            value,
-            len,
-            number: 0,
-            store: 4,
-            lane: 0,
-        },
-        Store::S { value } => Said {
-            value,
-            len,
-            number: 0,
-            store: 5,
-            lane: 0,
-        },
-        Store::N { value } => Said {
-            value,
-            len,
-            number: 0,
-            store: 6,
-            lane: 0,
-        },
-        Store::Record { position } => Said {
-            value: position,
-            len,
-            number: 0,
-            store: 7,
-            lane: 0,
-        },
-        Store::File => Said {
-            value: 0,
-            len,
-            number: 0,
-            store: 8,
-            lane: 0,
-        },
-        Store::Delete { position } => Said {
-            value: position,
-            len,
-            number: 0,
-            store: 9,
-            lane: 0,
-        },
-        Store::Empty => Said {
-            value: 0,
-            len,
-            number: 0,
-            store: 10,
-            lane: 0,
-        },
-    }
-}
-
-// 01's number of a refusal.
-fn number_of(why: Refusal) -> u8
-    ensures { result ≡ number_of why }
-{
-    match why {
-        Refusal::Condition => 1,
-        Refusal::Numbers => 2,
-        Refusal::Length { right } => 3,
-        Refusal::Transaction => 4,
-        Refusal::Lane => 5,
-        Refusal::Position => 6,
-        Refusal::Full => 7,
-        Refusal::Spent => 8,
-        Refusal::Closed { offset } => 9,
-        Refusal::Epoch { offset } => 10,
-        Refusal::Turn { offset } => 11,
-        Refusal::Version => 12,
-        Refusal::Missing { lane } => 13,
-        Refusal::Point => 14,
-        Refusal::Unseen => 15,
-    }
-}
-
-// The value returned with it, 0 where there is none.
-fn value_of(why: Refusal) -> u64
-    ensures { result ≡ at (values_of why) 0 }
-{
-    match why {
-        Refusal::Condition => 0,
-        Refusal::Numbers => 0,
-        Refusal::Length { right } => right as u64,
-        Refusal::Transaction => 0,
-        Refusal::Lane => 0,
-        Refusal::Position => 0,
-        Refusal::Full => 0,
-        Refusal::Spent => 0,
-        Refusal::Closed { offset } => offset as u64,
-        Refusal::Epoch { offset } => offset as u64,
-        Refusal::Turn { offset } => offset as u64,
-        Refusal::Version => 0,
-        Refusal::Missing { lane } => lane as u64,
-        Refusal::Point => 0,
-        Refusal::Unseen => 0,
+    let (store, lane, value) = match store {
+        Store::Nothing => (0, 0, 0),
+        Store::W { lane, value } => (1, lane, value),
+        Store::V { lane, value } => (2, lane, value),
+        Store::R { lane, value } => (3, lane, value),
+        Store::E { value } => (4, 0, value),
+        Store::S { value } => (5, 0, value),
+        Store::N { value } => (6, 0, value),
+        Store::Record { position } => (7, 0, position),
+        Store::File => (8, 0, 0),
+        Store::Delete { position } => (9, 0, position),
+        Store::Empty => (10, 0, 0),
+    };
+    Said {
+        value,
+        len,
+        number: 0,
+        store,
+        lane,
     }
 }
 
 // A number, and the value returned with it.
+#[tactic(auto, unfolding(crate::specs::Replies::said_of))]
 fn refused(number: u8, value: u64) -> Said
     ensures { result ≡ said_of (refused number (value ∷ [])) }
 {
@@ -448,66 +298,68 @@ fn refused(number: u8, value: u64) -> Said
 }
 
 // What an outcome says.
+#[tactic(auto, unfolding(crate::specs::Replies::said_of, protocol::specs::Said::shown))]
 pub fn said_of(o: Outcome) -> Said
     ensures { result ≡ said_of (shown o) }
 {
     match o {
-        Outcome::Taken { store, len } => named(store, len as u64),
-        Outcome::Refused { why } => {
-            let value = value_of(why);
-            let number = number_of(why);
-            refused(number, value)
-        }
+        Ok(t) => named(t.store, t.len as u64),
+        Err(why) => refused(why.number(), why.value()),
     }
 }
 
 // What a reply off the bus comes to.
-pub fn said_of_bus(h: Heard) -> Said
+#[tactic(auto, unfolding(crate::specs::Replies::said_of, bus::specs::Answer::said_by))]
+pub fn said_of_bus(h: Result<(), BusError>) -> Said
     ensures { result ≡ said_of (said_by h) }
 {
     match h {
-        Heard::Taken => named(Store::Nothing, MIN_TEXT as u64),
-        Heard::Short(right) => refused(3, right as u64),
-        Heard::Meter => refused(4, 0),
-        Heard::Broken => refused(16, 0),
-        Heard::Unusable => refused(17, 0),
+        Ok(()) => named(Store::Nothing, MIN_TEXT as u64),
+        Err(BusError::Short(right)) => refused(3, right as u64),
+        Err(BusError::Meter) => refused(4, 0),
+        Err(BusError::Broken) => refused(16, 0),
+        Err(BusError::Unusable) => refused(17, 0),
     }
 }
 
 // What a heat split comes to.
-pub fn said_of_split(h: Split) -> Said
+#[tactic(auto, unfolding(crate::specs::Replies::said_of, heat::specs::Answer::said_by))]
+pub fn said_of_split(h: Result<usize, SplitError>) -> Said
     ensures { result ≡ said_of (split_by h) }
 {
     match h {
-        Split::Written(len) => named(Store::Nothing, len as u64),
-        Split::Short(right) => refused(3, right as u64),
-        Split::NoTables => refused(4, 0),
-        Split::CodeChanged => refused(18, 0),
-        Split::NothingUsed => refused(19, 0),
+        Ok(len) => named(Store::Nothing, len as u64),
+        Err(SplitError::Short(right)) => refused(3, right as u64),
+        Err(SplitError::NoTables) => refused(4, 0),
+        Err(SplitError::CodeChanged) => refused(18, 0),
+        Err(SplitError::NothingUsed) => refused(19, 0),
     }
 }
 
 // What a plain table comes to.
-pub fn said_of_plain(h: Plain) -> Said
+#[tactic(auto, unfolding(crate::specs::Replies::said_of, heat::specs::Plain::plain_by))]
+pub fn said_of_plain(h: Result<(), NoRoom>) -> Said
     ensures { result ≡ said_of (plain_by h) }
 {
     match h {
-        Plain::Put => named(Store::Nothing, TABLE_LEN as u64),
-        Plain::Room => refused(3, TABLE_LEN as u64),
+        Ok(()) => named(Store::Nothing, TABLE_LEN as u64),
+        Err(NoRoom) => refused(3, TABLE_LEN as u64),
     }
 }
 
 // The reply of a call that answered so.
+#[tactic(auto, unfolding(crate::specs::Replies::reply_of, protocol::specs::Said::shown_as))]
 pub fn reply_of(a: Answer) -> Reply
     ensures { result ≡ reply_of (shown_as a []) }
 {
-    let outcome = a.outcome;
-    let said = said_of(outcome);
-    let state = freeze(a.state);
-    Reply { state, said }
+    Reply {
+        state: FlatState::from(a.state),
+        said: said_of(a.outcome),
+    }
 }
 
 // The reply to a state that is not known: number 1, and the state as it came.
+#[tactic(auto, unfolding(crate::specs::Replies::not_a_state))]
 pub fn not_a_state(s: FlatState) -> Reply
     ensures { result ≡ not_a_state s }
 {

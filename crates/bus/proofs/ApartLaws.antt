@@ -12,17 +12,14 @@ use lib.IntN.{ℤ, pos, negsuc}
 use lib.ListN.{length, take, drop, length-drop, take-append-drop}
 use lib.Seq.{get_or-take, get_or-drop, take-add, length-take-le}
 use borrow.Author.Tests.{leb-true, ltb-true, ltb-false, eqb-true, eqb-false, eq-eqb}
+use Rattle.std.specs.Prelude.{Option, Some, None}
 use Rattle.octets.specs.Lists.{at}
 use Rattle.octets.specs.Bytes.{padded}
 use Rattle.octets.proofs.BoolLaws.{and_left, and_right, or_left, or_right}
 use Rattle.octets.proofs.EveryLaws.{and_both}
 use Rattle.table.proofs.OrderLaws.{clash}
-use Rattle.bus.specs.declared.DataLen.{DataLen}
-use Rattle.bus.specs.declared.DataLen.TheVariants as D
 use Rattle.bus.specs.declared.Met.{Met}
 use Rattle.bus.specs.declared.Met.TheVariants as M
-use Rattle.bus.specs.declared.Found.{Found}
-use Rattle.bus.specs.declared.Found.TheVariants as F
 use Rattle.transaction.specs.Signed.{minus}
 use Rattle.bus.specs.Digits.{digits_in, decimal, all_digits, reading_by, reading_of}
 use Rattle.bus.specs.Records.{filler, wanted_dif, data_len, field_len, dif_of, vif_of, unusable_vif, record_len, wanted, look_record, look, follow, first_within, first_reading, data_place}
@@ -36,23 +33,23 @@ use Rattle.bus.proofs.TakenLaws.{decimal_lt}
 
 -- ---- what is found is a reading
 
-is_reading : Found → Bool
-is_reading (F.Reading z) = true
-is_reading F.Nothing = false
+is_reading : Option ℤ → Bool
+is_reading (Some z) = true
+is_reading None = false
 
-reading_from : Found → ℤ
-reading_from (F.Reading z) = z
-reading_from F.Nothing = pos 0
+reading_from : Option ℤ → ℤ
+reading_from (Some z) = z
+reading_from None = pos 0
 
-pub no_reading : {X : Type 0} {v : ℤ} → F.Nothing ≡ F.Reading v → X
+pub no_reading : {X : Type 0} {v : ℤ} → None ≡ Some v → X
 unfolding is_reading
 no_reading e = clash (sym (ap is_reading e))
 
-same_reading : {z v : ℤ} → F.Reading z ≡ F.Reading v → z ≡ v
+same_reading : {z v : ℤ} → Some z ≡ Some v → z ≡ v
 unfolding reading_from
 same_reading e = ap reading_from e
 
-pub reading_by_law : (b : Bool) (x y : Found) {v : ℤ} → cond b x y ≡ F.Reading v → ((b ≡ true) × (x ≡ F.Reading v)) ⊎ ((b ≡ false) × (y ≡ F.Reading v))
+pub reading_by_law : (b : Bool) (x y : Option ℤ) {v : ℤ} → cond b x y ≡ Some v → ((b ≡ true) × (x ≡ Some v)) ⊎ ((b ≡ false) × (y ≡ Some v))
 reading_by_law true x y e = inl (refl, e)
 reading_by_law false x y e = inr (refl, e)
 
@@ -102,7 +99,7 @@ module _ (a b c d : ℕ) where
       digits_of_law 7 (take 7 ds) (0x0f ∷ []) refl g ∙ ap (λ (n : ℕ). take 7 ds ++ (n ∷ [])) (sym s) in
       subst (Written (minus (decimal (take 7 ds)))) (ap packed all ∙ packed_back) (signed (decimal (take 7 ds)) h)
 
-  pub reading_back : (v : ℤ) → reading_by (digits_in bytes) ≡ F.Reading v → Written v bytes
+  pub reading_back : (v : ℤ) → reading_by (digits_in bytes) ≡ Some v → Written v bytes
   unfolding reading_by digits_in
   reading_back v e =
       ⊎_elim
@@ -111,10 +108,10 @@ module _ (a b c d : ℕ) where
       ⊎_elim
       (λ p. subst (λ (z : ℤ). Written z bytes) (same_reading p.1) (minus_back (and_left (all_digits (take 7 ds)) (eqb (at ds 7) 0x0f) p.0) (eqb-true (at ds 7) 0x0f (and_right (all_digits (take 7 ds)) (eqb (at ds 7) 0x0f) p.0))))
       (λ p. no_reading p.1)
-      (reading_by_law (all_digits (take 7 ds) && eqb (at ds 7) 0x0f) (F.Reading (minus (decimal (take 7 ds)))) F.Nothing q.1))
-      (reading_by_law (all_digits ds) (F.Reading (pos (decimal ds))) _ e)
+      (reading_by_law (all_digits (take 7 ds) && eqb (at ds 7) 0x0f) (Some (minus (decimal (take 7 ds)))) None q.1))
+      (reading_by_law (all_digits ds) (Some (pos (decimal ds))) _ e)
 
-pub read_written : (t : List ℕ) (v : ℤ) → 4 ≤ length t → reading_of t ≡ F.Reading v → Written v (take 4 t)
+pub read_written : (t : List ℕ) (v : ℤ) → 4 ≤ length t → reading_of t ≡ Some v → Written v (take 4 t)
 unfolding reading_of padded
 read_written [] v h e = absurd (let z : 0 < 0 = omega arith in not-suc-le-zero z)
 read_written (a ∷ []) v h e = absurd (let z : 0 < 0 = omega arith in not-suc-le-zero z)
@@ -143,12 +140,12 @@ View unit s (M.Pass n) = (s ≡ filler ∷ drop n s) ⊎ Unwanted unit (take n s
 View unit s M.Take = (6 ≤ length s) × ((at s 0 ≡ wanted_dif) × (at s 1 ≡ unit))
 View unit s M.End = Unit {0}
 
-abbrev size_in : DataLen → ℕ
-size_in (D.Bytes n) = n
-size_in D.Unusable = 0
+abbrev size_in : Option ℕ → ℕ
+size_in (Some n) = n
+size_in None = 0
 
 module _ (unit : ℕ) (s : List ℕ) where
-  module _ (nf : dif_of s ≡ filler → ⊥) (size : ℕ) (sized : data_len (dif_of s) ≡ D.Bytes size) (plain : unusable_vif (vif_of s) ≡ false) (whole : record_len size s ≤ length s) where
+  module _ (nf : dif_of s ≡ filler → ⊥) (size : ℕ) (sized : data_len (dif_of s) ≡ Some size) (plain : unusable_vif (vif_of s) ≡ false) (whole : record_len size s ≤ length s) where
     abbrev d : ℕ
     d = field_len s
 
@@ -192,15 +189,15 @@ module _ (unit : ℕ) (s : List ℕ) where
           dif_field = field_taken s (omega arith);
           vif_field = field_taken (drop d s) (omega arith);
           no_filler = λ q. nf (sym dif_is ∙ q);
-          sized = ap data_len dif_is ∙ sized ∙ ap D.Bytes (sym long);
+          sized = ap data_len dif_is ∙ sized ∙ ap Some (sym long);
           plain = ap unusable_vif vif_is ∙ plain;
           other = λ q r. clash (sym (and_both (eq-eqb (dif_of s) wanted_dif (sym dif_is ∙ q)) (eq-eqb (vif_of s) unit (sym vif_is ∙ r))) ∙ e);
         }
 
-  record_view : (dif_of s ≡ filler → ⊥) → (n : DataLen) → data_len (dif_of s) ≡ n → View unit s (look_record n unit s)
+  record_view : (dif_of s ≡ filler → ⊥) → (n : Option ℕ) → data_len (dif_of s) ≡ n → View unit s (look_record n unit s)
   unfolding look_record View
-  record_view nf D.Unusable e = tt
-  record_view nf (D.Bytes size) e =
+  record_view nf None e = tt
+  record_view nf (Some size) e =
       cond_by (View unit s) (unusable_vif (vif_of s) || ltb (length s) (record_len size s)) M.End (cond (wanted unit s) M.Take (M.Pass (record_len size s))) (λ _. tt)
       (λ o.
       let plain = or_left (unusable_vif (vif_of s)) (ltb (length s) (record_len size s)) o in
@@ -250,7 +247,7 @@ module _ (unit : ℕ) (s : List ℕ) (v : ℤ) where
         ∙ sym (append_assoc (take n s) g.records (wanted_dif ∷ unit ∷ (g.content ++ g.rest)));
   }
 
-  here : View unit s M.Take → reading_of (drop data_place s) ≡ F.Reading v → Sought unit s v
+  here : View unit s M.Take → reading_of (drop data_place s) ≡ Some v → Sought unit s v
   unfolding View
   here w e =
       let h = w.0 in
@@ -264,17 +261,17 @@ module _ (unit : ℕ) (s : List ℕ) (v : ℤ) where
         whole = places data_place 0 s (omega arith) ∙ (λ i. w.1.0 i ∷ w.1.1 i ∷ sym (take-append-drop 4 (drop data_place s)) i);
       }
 
-  follow_sought : (m : Met) → View unit s m → (f : ℕ → Found) → ((n : ℕ) → f n ≡ F.Reading v → Sought unit (drop n s) v) → follow m f (reading_of (drop data_place s)) ≡ F.Reading v → Sought unit s v
+  follow_sought : (m : Met) → View unit s m → (f : ℕ → Option ℤ) → ((n : ℕ) → f n ≡ Some v → Sought unit (drop n s) v) → follow m f (reading_of (drop data_place s)) ≡ Some v → Sought unit s v
   unfolding follow View
   follow_sought (M.Pass n) w f ih e = ⊎_elim (λ l. behind_filler n l (ih n e)) (λ u. behind_record n u (ih n e)) w
   follow_sought M.Take w f ih e = here w e
   follow_sought M.End w f ih e = no_reading e
 
-within_sought : (n unit : ℕ) (s : List ℕ) (v : ℤ) → first_within n unit s ≡ F.Reading v → Sought unit s v
+within_sought : (n unit : ℕ) (s : List ℕ) (v : ℤ) → first_within n unit s ≡ Some v → Sought unit s v
 unfolding first_within
 within_sought zero unit s v e = no_reading e
 within_sought (suc n) unit s v e = follow_sought unit s v (look unit s) (look_view unit s) (λ k. first_within n unit (drop k s)) (λ k. within_sought n unit (drop k s) v) e
 
-pub sought : (unit : ℕ) (s : List ℕ) (v : ℤ) → first_reading unit s ≡ F.Reading v → Sought unit s v
+pub sought : (unit : ℕ) (s : List ℕ) (v : ℤ) → first_reading unit s ≡ Some v → Sought unit s v
 unfolding first_reading
 sought unit s v e = within_sought (length s) unit s v e

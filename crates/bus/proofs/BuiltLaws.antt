@@ -11,10 +11,9 @@ use lib.IntN.{ℤ, pos, negsuc}
 use lib.ListN.{length, take, drop, length-append}
 use lib.Seq.{drop-append_seam, get_or-append-add, drop_at}
 use borrow.Author.Tests.{le-leb, eq-eqb, ne_eqb, eqb-true}
+use Rattle.std.specs.Prelude.{Some}
 use Rattle.octets.specs.Lists.{at}
 use Rattle.octets.specs.Bytes.{padded}
-use Rattle.bus.specs.declared.DataLen.TheVariants as D
-use Rattle.bus.specs.declared.Found.TheVariants as F
 use Rattle.transaction.specs.Signed.{minus}
 use Rattle.bus.specs.Digits.{digits_in, decimal, all_digits, reading_by, reading_of}
 use Rattle.bus.specs.Records.{filler, wanted_dif, data_len, field_len, dif_of, vif_of, unusable_vif, record_len, wanted, first_reading}
@@ -72,25 +71,25 @@ digits_are (suc k) n h =
     let ih = digits_are k (n / 10) (omega arith) in
     omega arith
 
-read_plain : (n : ℕ) → n < 10 ^ 8 → reading_by (digits_of 8 n []) ≡ F.Reading (pos n)
+read_plain : (n : ℕ) → n < 10 ^ 8 → reading_by (digits_of 8 n []) ≡ Some (pos n)
 unfolding reading_by all_digits
-read_plain n h = rw (all_good 8 n []) (ap (λ (k : ℕ). F.Reading (pos k)) (digits_are 8 n h))
+read_plain n h = rw (all_good 8 n []) (ap (λ (k : ℕ). Some (pos k)) (digits_are 8 n h))
 
 sign_last : (n : ℕ) → (take 7 (digits_of 7 n (0x0f ∷ [])) ≡ digits_of 7 n []) × (at (digits_of 7 n (0x0f ∷ [])) 7 ≡ 0x0f)
 unfolding digits_of
 sign_last n = (refl, refl)
 
-read_minus : (n : ℕ) → n < 10 ^ 7 → reading_by (digits_of 7 n (0x0f ∷ [])) ≡ F.Reading (minus n)
+read_minus : (n : ℕ) → n < 10 ^ 7 → reading_by (digits_of 7 n (0x0f ∷ [])) ≡ Some (minus n)
 unfolding reading_by all_digits
 read_minus n h =
-    rw (all_good 7 n (0x0f ∷ []), (sign_last n).0, (sign_last n).1, all_good 7 n []) (ap (λ (k : ℕ). F.Reading (minus k)) (digits_are 7 n h))
+    rw (all_good 7 n (0x0f ∷ []), (sign_last n).0, (sign_last n).1, all_good 7 n []) (ap (λ (k : ℕ). Some (minus k)) (digits_are 7 n h))
 
-pub every_number : (v : ℤ) (rest : List ℕ) → EightDigits v → reading_of (bcd v ++ rest) ≡ F.Reading v
+pub every_number : (v : ℤ) (rest : List ℕ) → EightDigits v → reading_of (bcd v ++ rest) ≡ Some v
 unfolding reading_of bcd EightDigits minus
 every_number (pos n) rest h = ap reading_by (eight_digits n rest) ∙ read_plain n (omega arith)
 every_number (negsuc n) rest h = ap reading_by (seven_digits (suc n) 0x0f rest) ∙ read_minus (suc n) (omega arith)
 
-pub written_read : (v : ℤ) (b rest : List ℕ) → Written v b → reading_of (b ++ rest) ≡ F.Reading v
+pub written_read : (v : ℤ) (b rest : List ℕ) → Written v b → reading_of (b ++ rest) ≡ Some v
 unfolding reading_of minus
 written_read v b rest (digits w e) = every_number w rest e
 written_read v b rest minus_zero = ap reading_by (seven_digits 0 0x0f rest) ∙ read_minus 0 (omega arith)
@@ -121,7 +120,7 @@ field_nonempty (x ∷ d) f = omega arith
 
 -- ---- a whole unwanted record
 
-module _ (unit : ℕ) (d v x s : List ℕ) (fd : Field d) (fv : Field v) (nf : at d 0 ≡ filler → ⊥) (sz : data_len (at d 0) ≡ D.Bytes (length x)) (pl : unusable_vif (at v 0) ≡ false) (ot : at d 0 ≡ wanted_dif → at v 0 ≡ unit → ⊥) where
+module _ (unit : ℕ) (d v x s : List ℕ) (fd : Field d) (fv : Field v) (nf : at d 0 ≡ filler → ⊥) (sz : data_len (at d 0) ≡ Some (length x)) (pl : unusable_vif (at v 0) ≡ false) (ot : at d 0 ≡ wanted_dif → at v 0 ≡ unit → ⊥) where
   abbrev whole : List ℕ
   whole = d ++ (v ++ (x ++ s))
 
@@ -210,7 +209,7 @@ module _ (unit : ℕ) (l : unit < 0x7c) (content rest : List ℕ) where
   unfolding wanted
   here_wanted = rw here_vif (eq-eqb unit unit refl)
 
-  pub wanted_taken : (v : ℤ) → Written v content → first_reading unit here ≡ F.Reading v
+  pub wanted_taken : (v : ℤ) → Written v content → first_reading unit here ≡ Some v
   wanted_taken v w =
       let a = length-append content rest in
       let b = length_written v content w in

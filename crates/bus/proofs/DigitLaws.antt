@@ -1,6 +1,6 @@
 -- Eight digits: the code's tests and sums are the definition's, and every number from -9,999,999 to 99,999,999 is the reading of its digits.
 -- Assumes nothing.
-use Prim.Native.Nat.{ℕ, zero, suc, ◌+◌, ◌-◌, ◌*◌, ◌/◌, ◌%◌, ◌^◌, ◌<◌}
+use Prim.Native.Nat.{ℕ, zero, suc, ◌+◌, ◌-◌, ◌*◌, ◌/◌, ◌%◌, ◌^◌, ◌<◌, ◌≤◌}
 use mathlib.Core.Path.{◌≡◌, refl, sym, ap, ap₂, subst, ◌∙◌}
 use mathlib.Core.Bool.{Bool, true, false, cond, ◌&&◌}
 use mathlib.Core.List.{List, [], ◌∷◌}
@@ -12,14 +12,14 @@ use lib.Signed.{mag}
 use mir.Syntax.{w32}
 use mir.Val.{SFits, to_z, of_z}
 use mir.ValLaws.{to_z-of_z, to_z_pos}
-use borrow.Author.Tests.{le-leb}
+use borrow.Author.Tests.{le-leb, lt-leb, eq-eqb, ne_eqb}
+use Rattle.std.specs.Prelude.{Some, None}
 use Rattle.octets.specs.Lists.{at}
 use Rattle.octets.specs.Bytes.{padded}
 use Rattle.octets.proofs.BoolLaws.{and_assoc, and_true}
 use Rattle.octets.proofs.LittleLaws.{from_padded}
-use Rattle.bus.specs.declared.Found.TheVariants as F
 use Rattle.transaction.specs.Signed.{minus}
-use Rattle.bus.specs.Digits.{digits_in, decimal, all_digits, reading_by, reading_of}
+use Rattle.bus.specs.Digits.{pair_of, digits_in, decimal, all_digits, reading_by, reading_of}
 
 -- ---- four bytes, and their eight digits
 
@@ -34,6 +34,23 @@ seven a b c d = a % 16 + a / 16 * 10 + (b % 16 + b / 16 * 10) * 100 + (c % 16 + 
 
 abbrev pair : ℕ → Bool
 pair b = leb (b % 16) 9 && leb (b / 16) 9
+
+-- a byte of two digits has both, and its number
+pub pair_has : (b : ℕ) {n : ℕ} → pair_of b ≡ Some n → (pair b ≡ true) × (n ≡ b % 16 + b / 16 * 10)
+unfolding pair_of
+pair_has b {n = n} e = by (pair b) refl e
+  where
+    by : (t : Bool) → pair b ≡ t → cond t (Some (b % 16 + b / 16 * 10)) None ≡ Some n → (pair b ≡ true) × (n ≡ b % 16 + b / 16 * 10)
+    by true q e = (q, cc)
+    by false q e = cc
+
+pub pair_none : (b : ℕ) → pair_of b ≡ None → pair b ≡ false
+unfolding pair_of
+pair_none b e = by (pair b) refl e
+  where
+    by : (t : Bool) → pair b ≡ t → cond t (Some (b % 16 + b / 16 * 10)) None ≡ None → pair b ≡ false
+    by true q e = cc
+    by false q e = q
 
 -- ---- tests one after the other
 
@@ -63,7 +80,7 @@ minus_fits n h = subst (SFits w32) (sym (ap (λ (z : ℤ). pos 0 -ℤ z) (to_z_p
 
 -- ---- the code's steps
 
-module _ (s : List ℕ) {a b c d : ℕ} {p q r : Bool} (ea : a ≡ at s 0) (eb : b ≡ at s 1) (ec : c ≡ at s 2) (ed : d ≡ at s 3) (ep : p ≡ pair a) (eq : q ≡ pair b) (er : r ≡ pair c) where
+module _ (s : List ℕ) {a b c d : ℕ} (ea : a ≡ at s 0) (eb : b ≡ at s 1) (ec : c ≡ at s 2) (ed : d ≡ at s 3) where
   reading_is : reading_of s ≡ reading_by (eight a b c d)
   unfolding reading_of digits_in
   reading_is = ap (λ (l : List ℕ). reading_by (digits_in l)) (four s) ∙ ap reading_by (sym (ap₂ (λ (f g : List ℕ → List ℕ). f (g [])) x y))
@@ -75,38 +92,63 @@ module _ (s : List ℕ) {a b c d : ℕ} {p q r : Bool} (ea : a ≡ at s 0) (eb :
       y = ap₂ (λ (m n : ℕ). λ (l : List ℕ). m % 16 ∷ m / 16 ∷ n % 16 ∷ n / 16 ∷ l) ec ed
 
   -- the first seven
-  low_is : all_digits (take 7 (eight a b c d)) ≡ p && q && r && leb (d % 16) 9
+  low_is : all_digits (take 7 (eight a b c d)) ≡ pair a && pair b && pair c && leb (d % 16) 9
   unfolding all_digits
-  low_is =
-      all_seven (leb (a % 16) 9) (leb (a / 16) 9) (leb (b % 16) 9) (leb (b / 16) 9) (leb (c % 16) 9) (leb (c / 16) 9) (leb (d % 16) 9)
-      ∙ ap (λ (t : Bool). t && leb (d % 16) 9) (ap₂ ◌&&◌ (ap₂ ◌&&◌ (sym ep) (sym eq)) (sym er))
+  low_is = all_seven (leb (a % 16) 9) (leb (a / 16) 9) (leb (b % 16) 9) (leb (b / 16) 9) (leb (c % 16) 9) (leb (c / 16) 9) (leb (d % 16) 9)
 
-  all_is : all_digits (eight a b c d) ≡ p && q && r && leb (d % 16) 9 && leb (d / 16) 9
+  all_is : all_digits (eight a b c d) ≡ pair a && pair b && pair c && leb (d % 16) 9 && leb (d / 16) 9
   unfolding all_digits
   all_is =
       and_last (leb (a % 16) 9) (leb (a / 16) 9) (leb (b % 16) 9) (leb (b / 16) 9) (leb (c % 16) 9) (leb (c / 16) 9) (leb (d % 16) 9) (leb (d / 16) 9)
       ∙ ap (λ (t : Bool). t && leb (d / 16) 9) low_is
 
-  pub reading_plain : seven a b c d + d / 16 * 10000000 < 2 ^ 31 → p && q && r && leb (d % 16) 9 && leb (d / 16) 9 ≡ true
-      → F.Reading (to_z w32 (seven a b c d + d / 16 * 10000000)) ≡ reading_of s
-  unfolding reading_by decimal
-  reading_plain h e =
-      let n : seven a b c d + d / 16 * 10000000 ≡ decimal (eight a b c d) = omega arith in
-      ap F.Reading (to_z_pos w32 (seven a b c d + d / 16 * 10000000) h ∙ ap pos n)
-      ∙ sym (reading_is ∙ rw (all_is ∙ e))
+  -- one of them is above 9
+  pub reading_low : pair a && pair b && pair c && leb (d % 16) 9 ≡ false → None ≡ reading_of s
+  unfolding reading_by
+  reading_low e = sym (reading_is ∙ rw (all_is, low_is, e))
 
-  module _ (no_plain : p && q && r && leb (d % 16) 9 && leb (d / 16) 9 ≡ false) where
-    behind : reading_of s ≡ cond (all_digits (take 7 (eight a b c d)) && eqb (d / 16) 0x0f) (F.Reading (minus (decimal (take 7 (eight a b c d))))) F.Nothing
-    unfolding reading_by
-    behind = reading_is ∙ rw (all_is ∙ no_plain)
+  pub reading_first : pair_of a ≡ None → None ≡ reading_of s
+  reading_first e = reading_low (rw (pair_none a e))
 
-    pub reading_minus : seven a b c d < 2 ^ 31 → SFits w32 (pos 0 -ℤ to_z w32 (seven a b c d)) → p && q && r && leb (d % 16) 9 && eqb (d / 16) 0x0f ≡ true
-        → F.Reading (to_z w32 (of_z w32 (pos 0 -ℤ to_z w32 (seven a b c d)))) ≡ reading_of s
-    unfolding decimal
-    reading_minus h f e =
-        let n : seven a b c d ≡ decimal (take 7 (eight a b c d)) = omega arith in
-        ap F.Reading (to_z-of_z w32 (pos 0 -ℤ to_z w32 (seven a b c d)) f ∙ ap (λ (z : ℤ). pos 0 -ℤ z) (to_z_pos w32 (seven a b c d) h) ∙ minus_is (seven a b c d) ∙ ap minus n)
-        ∙ sym (behind ∙ rw (ap (λ (t : Bool). t && eqb (d / 16) 0x0f) low_is ∙ e))
+  pub reading_second : {x : ℕ} → pair_of a ≡ Some x → pair_of b ≡ None → None ≡ reading_of s
+  reading_second p e = reading_low (rw ((pair_has a p).0, pair_none b e))
 
-    pub reading_none : p && q && r && leb (d % 16) 9 && eqb (d / 16) 0x0f ≡ false → F.Nothing ≡ reading_of s
-    reading_none e = sym (behind ∙ rw (ap (λ (t : Bool). t && eqb (d / 16) 0x0f) low_is ∙ e))
+  pub reading_third : {x y : ℕ} → pair_of a ≡ Some x → pair_of b ≡ Some y → pair_of c ≡ None → None ≡ reading_of s
+  reading_third p q e = reading_low (rw ((pair_has a p).0, (pair_has b q).0, pair_none c e))
+
+  module _ {x y z : ℕ} (p : pair_of a ≡ Some x) (q : pair_of b ≡ Some y) (r : pair_of c ≡ Some z) where
+    pub reading_seventh : 9 < d % 16 → None ≡ reading_of s
+    reading_seventh h = reading_low (rw ((pair_has a p).0, (pair_has b q).0, (pair_has c r).0, lt-leb (d % 16) 9 h))
+
+    module _ (low : d % 16 ≤ 9) where
+      seven_is : x + y * 100 + z * 10000 + d % 16 * 1000000 ≡ seven a b c d
+      seven_is = let u = (pair_has a p).1 in let v = (pair_has b q).1 in let w = (pair_has c r).1 in omega arith
+
+      low_holds : pair a && pair b && pair c && leb (d % 16) 9 ≡ true
+      low_holds = rw ((pair_has a p).0, (pair_has b q).0, (pair_has c r).0, le-leb (d % 16) 9 low)
+
+      pub reading_plain : x + y * 100 + z * 10000 + d % 16 * 1000000 + d / 16 * 10000000 < 2 ^ 31 → d / 16 ≤ 9
+          → Some (to_z w32 (x + y * 100 + z * 10000 + d % 16 * 1000000 + d / 16 * 10000000)) ≡ reading_of s
+      unfolding reading_by decimal
+      reading_plain h top =
+          let m = seven_is in
+          let n : x + y * 100 + z * 10000 + d % 16 * 1000000 + d / 16 * 10000000 ≡ decimal (eight a b c d) = omega arith in
+          ap Some (to_z_pos w32 (x + y * 100 + z * 10000 + d % 16 * 1000000 + d / 16 * 10000000) h ∙ ap pos n)
+          ∙ sym (reading_is ∙ rw (all_is, low_holds, le-leb (d / 16) 9 top))
+
+      behind : 9 < d / 16 → reading_of s ≡ cond (eqb (d / 16) 0x0f) (Some (minus (decimal (take 7 (eight a b c d))))) None
+      unfolding reading_by
+      behind h = reading_is ∙ rw (all_is, low_is, low_holds, lt-leb (d / 16) 9 h)
+
+      pub reading_minus : x + y * 100 + z * 10000 + d % 16 * 1000000 < 2 ^ 31 → SFits w32 (pos 0 -ℤ to_z w32 (x + y * 100 + z * 10000 + d % 16 * 1000000)) → d / 16 ≡ 0x0f
+          → Some (to_z w32 (of_z w32 (pos 0 -ℤ to_z w32 (x + y * 100 + z * 10000 + d % 16 * 1000000)))) ≡ reading_of s
+      unfolding decimal
+      reading_minus h f e =
+          let k = x + y * 100 + z * 10000 + d % 16 * 1000000 in
+          let m = seven_is in
+          let n : k ≡ decimal (take 7 (eight a b c d)) = omega arith in
+          ap Some (to_z-of_z w32 (pos 0 -ℤ to_z w32 k) f ∙ ap (λ (t : ℤ). pos 0 -ℤ t) (to_z_pos w32 k h) ∙ minus_is k ∙ ap minus n)
+          ∙ sym (behind (omega (arith, e)) ∙ rw (eq-eqb (d / 16) 0x0f e))
+
+      pub reading_none : 9 < d / 16 → (d / 16 ≡ 0x0f → ⊥) → None ≡ reading_of s
+      reading_none h e = sym (behind h ∙ rw (ne_eqb (d / 16) 0x0f e))

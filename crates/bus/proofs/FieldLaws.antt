@@ -1,15 +1,18 @@
 -- A test's two sides; a DIF or VIF with its extension bytes, byte after byte; and the sum of bytes.
 -- Assumes nothing.
 use Prim.Native.Nat.{ℕ, zero, suc, ◌+◌, ◌%◌, ◌<◌, ◌≤◌}
-use mathlib.Core.Path.{◌≡◌, refl, sym, ap, ◌∙◌}
-use mathlib.Core.Bool.{Bool, true, false, cond}
+use mathlib.Core.Path.{◌≡◌, refl}
+use mathlib.Core.Bool.{Bool, true, false, cond, not}
 use mathlib.Core.List.{List, [], ◌∷◌}
 use native.Mathlib.Nat.{not-suc-le-zero, le_of_suc-le-suc}
-use native.Mathlib.Numerals.{add-one}
 use native.Mathlib.Omega.{arith}
 use lib.Dec.{ltb}
-use lib.ListN.{length, take, drop, drop_of_length-le}
-use borrow.Author.Tests.{lt-ltb, le-ltb}
+use lib.ListN.{length, drop}
+use borrow.Author.Tests.{lt-ltb, le-ltb, ltb-false}
+use Rattle.std.specs.Prelude.{Some, None}
+use Rattle.std.specs.List.{fold, position, position_or_len}
+use Rattle.std.specs.Option.{unwrap_or}
+use Rattle.std.proofs.lemmas.List.Sums.{prefix_len-le-length}
 use Rattle.octets.specs.Lists.{at}
 use Rattle.bus.specs.Frame.{sum}
 use Rattle.bus.specs.Records.{field_len}
@@ -36,19 +39,19 @@ field_end [] i l h = absurd (not-suc-le-zero l)
 field_end (x ∷ s) zero l h = field_here x s h
 field_end (x ∷ s) (suc i) l h = field_end s i (le_of_suc-le-suc l) h
 
--- it is not
-field_next : (s : List ℕ) (i : ℕ) → i < length s → 0x80 ≤ at s i → field_len (drop i s) ≡ suc (field_len (drop (suc i) s))
-field_next [] i l h = absurd (not-suc-le-zero l)
-field_next (x ∷ s) zero l h = field_on x s h
-field_next (x ∷ s) (suc i) l h = field_next s i (le_of_suc-le-suc l) h
-
-pub field_more : (s : List ℕ) (i : ℕ) → i < length s → 0x80 ≤ at s i → field_len (drop i s) ≡ suc (field_len (drop (i + 1) s))
-field_more s i l h = field_next s i l h ∙ ap (λ (n : ℕ). suc (field_len (drop n s))) (sym (add-one i))
-
--- past the last byte
-pub field_past : (s : List ℕ) (i : ℕ) → length s ≤ i → field_len (drop i s) ≡ 1
+-- the place of the last one
+field_at : (s : List ℕ) → position_or_len (λ x. ltb x 0x80) s + 1 ≡ field_len s
 unfolding field_len
-field_past s i h = ap field_len (drop_of_length-le s {i = i} h)
+field_at [] = refl
+field_at (x ∷ s) =
+    cond_by (λ n. position_or_len (λ y. ltb y 0x80) (x ∷ s) + 1 ≡ n) (ltb x 0x80) 1 (suc (field_len s)) (λ e. rw e refl) (λ e. let i = field_at s in rw e (omega arith))
+
+pub field_place : (s : List ℕ) → unwrap_or (position (λ x. ltb x 0x80) s) (length s) + 1 ≡ field_len s
+field_place s =
+    let k = position_or_len (λ x. ltb x 0x80) s in
+    let h = prefix_len-le-length (λ x. not (ltb x 0x80)) s in
+    let e = field_at s in
+    cond_by (λ p. unwrap_or p (length s) + 1 ≡ field_len s) (ltb k (length s)) (Some k) None (λ _. e) (λ t. let g = ltb-false k (length s) t in omega arith)
 
 field_bounds : (s : List ℕ) → (1 ≤ field_len s) × (field_len s ≤ length s + 1)
 unfolding field_len
@@ -65,18 +68,10 @@ field_bound s = (field_bounds s).1
 
 -- ---- the sum
 
-sum_one : (s : List ℕ) (i : ℕ) → i < length s → sum (take (suc i) s) ≡ sum (take i s) + at s i
+sum_from : (s : List ℕ) (total : ℕ) → total < 256 → fold (λ t x. (t + x) % 256) total s ≡ (total + sum s) % 256
 unfolding sum
-sum_one [] i h = absurd (not-suc-le-zero h)
-sum_one (x ∷ s) zero h = omega arith
-sum_one (x ∷ s) (suc i) h = let e = sum_one s i (le_of_suc-le-suc h) in omega arith
+sum_from [] total h = omega arith
+sum_from (x ∷ s) total h = let i = sum_from s ((total + x) % 256) (omega arith) in omega arith
 
--- a byte more
-pub sum_more : (s : List ℕ) (i : ℕ) {total : ℕ} → i < length s → total ≡ sum (take i s) % 256 → (total + at s i) % 256 ≡ sum (take (i + 1) s) % 256
-sum_more s i h e =
-    let f : sum (take (i + 1) s) ≡ sum (take i s) + at s i = ap (λ (n : ℕ). sum (take n s)) (add-one i) ∙ sum_one s i h in
-    omega arith
-
-pub sum_start : (s : List ℕ) → 0 ≡ sum (take 0 s) % 256
-unfolding sum
-sum_start s = refl
+pub sum_fold : (s : List ℕ) → fold (λ t x. (t + x) % 256) 0 s ≡ sum s % 256
+sum_fold s = let e = sum_from s 0 (omega arith) in omega arith

@@ -1,21 +1,26 @@
 -- What the search meets: each answer from the tests that lead to it, and how far a step goes.
 -- Assumes nothing.
-use Prim.Native.Nat.{ℕ, ◌+◌, ◌<◌, ◌≤◌}
-use mathlib.Core.Path.{◌≡◌, sym, ap, ap₂, ◌∙◌}
-use mathlib.Core.Bool.{true, false, cond, ◌&&◌, ◌||◌}
-use mathlib.Core.List.{List}
+use Prim.Native.Nat.{ℕ, zero, suc, ◌≤◌}
+use mathlib.Core.Path.{◌≡◌, ap, ◌∙◌}
+use mathlib.Core.Bool.{true, false, cond, ◌||◌}
+use mathlib.Core.List.{List, [], ◌∷◌}
 use native.Mathlib.Omega.{arith}
 use lib.Dec.{ltb, eqb}
 use lib.ListN.{length, drop}
-use borrow.Author.Tests.{eq-eqb, ne_eqb, lt-ltb, le-ltb, ltb-false, eqb-true, eqb-false}
-use Rattle.octets.specs.Lists.{at}
-use Rattle.bus.specs.declared.DataLen.{DataLen}
-use Rattle.bus.specs.declared.DataLen.TheVariants as D
+use borrow.Author.Tests.{eq-eqb, ne_eqb, le-ltb, ltb-false, eqb-true, eqb-false}
+use Rattle.std.specs.Prelude.{Option, Some, None}
+use Rattle.std.specs.List.{slice_get}
 use Rattle.bus.specs.declared.Met.{Met}
 use Rattle.bus.specs.declared.Met.TheVariants as M
-use Rattle.octets.proofs.BoolLaws.{and_left, and_right, or_right, or_true}
+use Rattle.octets.proofs.BoolLaws.{and_left, and_right, or_right}
 use Rattle.bus.specs.Records.{filler, wanted_dif, data_len, field_len, dif_of, vif_of, unusable_vif, record_len, wanted, look_record, look, data_place}
 use Rattle.bus.proofs.FieldLaws.{cond_by, field_some}
+
+-- past the end
+pub get_past : (s : List ℕ) (i : ℕ) → None ≡ slice_get s i → length s ≤ i
+get_past [] i e = omega arith
+get_past (x ∷ s) zero e = cc
+get_past (x ∷ s) (suc i) e = let h = get_past s i e in omega arith
 
 module _ (unit : ℕ) (s : List ℕ) where
   -- what is wanted has the DIF that is taken, and the unit's VIF
@@ -41,26 +46,10 @@ module _ (unit : ℕ) (s : List ℕ) where
       unfolding look
       look_record_law = rw (ne_eqb (length s) 0 more, ne_eqb (dif_of s) filler other)
 
-      pub look_unusable : data_len (dif_of s) ≡ D.Unusable → look unit s ≡ M.End
-      unfolding look_record
-      look_unusable e = look_record_law ∙ ap (λ (n : DataLen). look_record n unit s) e
-
-      module _ (size : ℕ) (sized : data_len (dif_of s) ≡ D.Bytes size) where
+      module _ (size : ℕ) (sized : data_len (dif_of s) ≡ Some size) where
         pub look_sized : look unit s ≡ cond (unusable_vif (vif_of s) || ltb (length s) (record_len size s)) M.End (cond (wanted unit s) M.Take (M.Pass (record_len size s)))
         unfolding look_record
-        look_sized = look_record_law ∙ ap (λ (n : DataLen). look_record n unit s) sized
-
-        -- it runs past the end
-        pub look_over : length s < record_len size s → look unit s ≡ M.End
-        look_over h = look_sized ∙ rw (lt-ltb (length s) (record_len size s) h, or_true (unusable_vif (vif_of s)))
-
-        -- before its VIF already
-        pub look_short : length s ≤ field_len s → look unit s ≡ M.End
-        unfolding record_len
-        look_short h = let v = field_some (drop (field_len s) s) in look_over (omega arith)
-
-        pub look_vif : unusable_vif (vif_of s) ≡ true → look unit s ≡ M.End
-        look_vif e = look_sized ∙ rw e
+        look_sized = look_record_law ∙ ap (λ (n : Option ℕ). look_record n unit s) sized
 
         module _ (fine : unusable_vif (vif_of s) ≡ false) (whole : record_len size s ≤ length s) where
           pub look_whole : look unit s ≡ cond (wanted unit s) M.Take (M.Pass (record_len size s))
@@ -72,21 +61,6 @@ module _ (unit : ℕ) (s : List ℕ) where
           pub look_pass : wanted unit s ≡ false → look unit s ≡ M.Pass (record_len size s)
           look_pass e = look_whole ∙ rw e
 
--- ---- with the lengths as the code has them
-
-module _ (unit : ℕ) (s : List ℕ) {d : ℕ} (ed : d ≡ field_len s) where
-  pub vif_is : unusable_vif (vif_of s) ≡ (eqb (at s d) 0x7c || eqb (at s d) 0xfc)
-  unfolding unusable_vif
-  vif_is = ap (λ (n : ℕ). eqb (at s n) 0x7c || eqb (at s n) 0xfc) (sym ed)
-
-  pub wanted_is : wanted unit s ≡ (eqb (dif_of s) wanted_dif && eqb (at s d) unit)
-  unfolding wanted
-  wanted_is = ap (λ (n : ℕ). eqb (dif_of s) wanted_dif && eqb (at s n) unit) (sym ed)
-
-  pub len_is : (size : ℕ) {v : ℕ} → v ≡ field_len (drop d s) → d + v + size ≡ record_len size s
-  unfolding record_len
-  len_is size {v} ev = ap (λ (n : ℕ). n + size) (ap₂ ◌+◌ ed (ev ∙ ap (λ (n : ℕ). field_len (drop n s)) ed))
-
 -- ---- a step
 
 -- something passed is one byte at least, and lies within s; in the record that is taken the data begins within it
@@ -96,10 +70,10 @@ Within s M.Take = data_place ≤ length s
 Within s M.End = Unit {0}
 
 module _ (unit : ℕ) (s : List ℕ) where
-  record_within : (n : DataLen) → Within s (look_record n unit s)
+  record_within : (n : Option ℕ) → Within s (look_record n unit s)
   unfolding look_record record_len
-  record_within D.Unusable = tt
-  record_within (D.Bytes size) =
+  record_within None = tt
+  record_within (Some size) =
       let d = field_some s in
       let v = field_some (drop (field_len s) s) in
       cond_by (Within s) (unusable_vif (vif_of s) || ltb (length s) (record_len size s)) M.End _ (λ e. tt)

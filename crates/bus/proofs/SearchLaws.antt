@@ -1,30 +1,26 @@
 -- The search: it goes on behind what it passes, whatever steps are allowed beyond the bytes left.
 -- Assumes nothing.
-use Prim.Native.Nat.{ℕ, zero, suc, ◌+◌, ◌-◌, ◌≤◌}
+use Prim.Native.Nat.{ℕ, zero, suc, ◌≤◌}
 use mathlib.Core.Path.{◌≡◌, refl, sym, ap, subst, ◌∙◌}
 use mathlib.Core.List.{List, [], ◌∷◌}
 use native.Mathlib.Nat.{not-suc-le-zero}
 use native.Mathlib.Omega.{arith}
 use lib.ListN.{length, drop, length-drop}
-use lib.Seq.{drop-drop}
-use borrow.Rule.Slice.PartMut.{mid_of}
-use Rattle.octets.proofs.PartLaws.{mid_rest}
+use Rattle.std.specs.Prelude.{ℤ, Option, None}
 use Rattle.bus.specs.declared.Met.{Met}
 use Rattle.bus.specs.declared.Met.TheVariants as M
-use Rattle.bus.specs.declared.Found.{Found}
-use Rattle.bus.specs.declared.Found.TheVariants as F
 use Rattle.bus.specs.Digits.{reading_of}
 use Rattle.bus.specs.Records.{look, follow, first_within, first_reading, data_place}
 use Rattle.bus.proofs.LookLaws.{Within, look_none, look_within}
 
-follow_same : (s : List ℕ) (m : Met) (f g : ℕ → Found) (h : Found) → Within s m → ((n : ℕ) → 1 ≤ n → n ≤ length s → f n ≡ g n) → follow m f h ≡ follow m g h
+follow_same : (s : List ℕ) (m : Met) (f g : ℕ → Option ℤ) (h : Option ℤ) → Within s m → ((n : ℕ) → 1 ≤ n → n ≤ length s → f n ≡ g n) → follow m f h ≡ follow m g h
 unfolding follow
 follow_same s (M.Pass n) f g h w e = e n w.0 w.1
 follow_same s M.Take f g h w e = refl
 follow_same s M.End f g h w e = refl
 
 module _ (unit : ℕ) where
-  for_none : (n : ℕ) → first_within n unit [] ≡ F.Nothing
+  for_none : (n : ℕ) → first_within n unit [] ≡ None
   unfolding first_within follow
   for_none zero = refl
   for_none (suc n) = ap (λ (m : Met). follow m (λ k. first_within n unit (drop k [])) (reading_of (drop data_place []))) (look_none unit [] refl)
@@ -61,27 +57,10 @@ module _ (unit : ℕ) where
   unfolding follow
   search_take s e = step_by_law s e
 
-  pub search_end : (s : List ℕ) → look unit s ≡ M.End → first_reading unit s ≡ F.Nothing
+  pub search_end : (s : List ℕ) → look unit s ≡ M.End → first_reading unit s ≡ None
   unfolding follow
   search_end s e = step_by_law s e
 
-  pub search_none : first_reading unit [] ≡ F.Nothing
-  search_none = search_end [] (look_none unit [] refl)
-
-  -- ---- a loop's turn, at a place of s
-
-  module _ (s : List ℕ) (place : ℕ) {m : Met} (met : m ≡ look unit (mid_of place (length s - place) s)) where
-    pub look_at : {v : Met} → m ≡ v → look unit (drop place s) ≡ v
-    look_at e = ap (look unit) (sym (mid_rest place s)) ∙ sym met ∙ e
-
-    pub within_at : {v : Met} → m ≡ v → Within (drop place s) v
-    within_at e = subst (Within (drop place s)) (look_at e) (look_within unit (drop place s))
-
-    pub turn_pass : {n : ℕ} → m ≡ M.Pass n → first_reading unit (drop (place + n) s) ≡ first_reading unit (drop place s)
-    turn_pass {n} e = ap (first_reading unit) (sym (drop-drop n place s)) ∙ sym (search_pass (drop place s) (look_at e))
-
-    pub turn_take : m ≡ M.Take → first_reading unit (drop place s) ≡ reading_of (drop (place + data_place) s)
-    turn_take e = search_take (drop place s) (look_at e) ∙ ap reading_of (drop-drop data_place place s)
-
-    pub turn_end : m ≡ M.End → first_reading unit (drop place s) ≡ F.Nothing
-    turn_end e = search_end (drop place s) (look_at e)
+  -- what it meets lies within s
+  pub within_by : (s : List ℕ) {v : Met} → v ≡ look unit s → Within s v
+  within_by s e = subst (Within s) (sym e) (look_within unit s)

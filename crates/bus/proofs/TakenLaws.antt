@@ -11,6 +11,7 @@ use lib.IntN.{ℤ, pos}
 use lib.Signed.{mag}
 use lib.ListN.{length, take, drop}
 use borrow.Author.Tests.{ltb-false, leb-true, leb-false, eqb-false, le-leb, lt-ltb, not-false}
+use Rattle.std.specs.Prelude.{Option, Some, None}
 use Rattle.octets.specs.Lists.{at}
 use Rattle.table.proofs.OrderLaws.{clash}
 use Rattle.octets.proofs.BoolLaws.{and_left, and_right}
@@ -29,8 +30,6 @@ use Rattle.protocol.specs.Vaults.{counter_max}
 use Rattle.protocol.specs.Accept.{too_low, accept}
 use Rattle.bus.specs.declared.Met.{Met}
 use Rattle.bus.specs.declared.Met.TheVariants as M
-use Rattle.bus.specs.declared.Found.{Found}
-use Rattle.bus.specs.declared.Found.TheVariants as F
 use Rattle.bus.specs.Frame.{least_l, medium_place, bytes_in, unbroken}
 use Rattle.bus.specs.Medium.{code_of, unit_of}
 use Rattle.transaction.specs.Signed.{minus}
@@ -43,9 +42,9 @@ use Rattle.bus.proofs.DigitLaws.{minus_small, four}
 
 -- ---- a reading has 32 bits
 
-abbrev Small : Found → Type 0
-Small (F.Reading z) = mag z < 2 ^ 31
-Small F.Nothing = Unit {0}
+abbrev Small : Option ℤ → Type 0
+Small (Some z) = mag z < 2 ^ 31
+Small None = Unit {0}
 
 pub decimal_lt : (ds : List ℕ) → all_digits ds ≡ true → decimal ds < 10 ^ length ds
 unfolding decimal all_digits
@@ -60,10 +59,10 @@ decimal_lt (d ∷ ds) e =
 by_small : (ds : List ℕ) → length ds ≡ 8 → length (take 7 ds) ≡ 7 → Small (reading_by ds)
 unfolding reading_by
 by_small ds e g =
-    cond_by Small (all_digits ds) (F.Reading (pos (decimal ds))) (cond (all_digits (take 7 ds) && eqb (at ds 7) 0x0f) (F.Reading (minus (decimal (take 7 ds)))) F.Nothing)
+    cond_by Small (all_digits ds) (Some (pos (decimal ds))) (cond (all_digits (take 7 ds) && eqb (at ds 7) 0x0f) (Some (minus (decimal (take 7 ds)))) None)
     (λ t. let h : decimal ds < 10 ^ 8 = subst (λ (n : ℕ). decimal ds < 10 ^ n) e (decimal_lt ds t) in omega arith)
     (λ _.
-    cond_by Small (all_digits (take 7 ds) && eqb (at ds 7) 0x0f) (F.Reading (minus (decimal (take 7 ds)))) F.Nothing
+    cond_by Small (all_digits (take 7 ds) && eqb (at ds 7) 0x0f) (Some (minus (decimal (take 7 ds)))) None
     (λ t. let h : decimal (take 7 ds) < 10 ^ 7 = subst (λ (n : ℕ). decimal (take 7 ds) < 10 ^ n) g (decimal_lt (take 7 ds) (and_left (all_digits (take 7 ds)) (eqb (at ds 7) 0x0f) t)) in minus_small (decimal (take 7 ds)) (omega arith))
     (λ _. tt))
 
@@ -77,7 +76,7 @@ reading_small s =
     let l = four_long (at s 0) (at s 1) (at s 2) (at s 3) in
     subst (λ (b : List ℕ). Small (reading_by (digits_in b))) (sym (four s)) (by_small (digits_in (at s 0 ∷ at s 1 ∷ at s 2 ∷ at s 3 ∷ [])) l.0 l.1)
 
-follow_small : (m : Met) (f : ℕ → Found) (h : Found) → ((n : ℕ) → Small (f n)) → Small h → Small (follow m f h)
+follow_small : (m : Met) (f : ℕ → Option ℤ) (h : Option ℤ) → ((n : ℕ) → Small (f n)) → Small h → Small (follow m f h)
 unfolding follow
 follow_small (M.Pass n) f h g l = g n
 follow_small M.Take f h g l = l
@@ -100,19 +99,19 @@ code_few m =
     (λ _. cond_by (λ n. n ≤ codes) (eqb m 0x0a || eqb m 0x0b) 4 0 (λ _. lit≤ tt) (λ _. lit≤ tt))))
 
 -- a reading has been found, of a code that there is
-abbrev Coded : ℕ → Found → Type 0
-Coded code (F.Reading z) = (1 ≤ code) × (mag z < 2 ^ 31)
-Coded code F.Nothing = Unit {0}
+abbrev Coded : ℕ → Option ℤ → Type 0
+Coded code (Some z) = (1 ≤ code) × (mag z < 2 ^ 31)
+Coded code None = Unit {0}
 
-coded_by : (code : ℕ) (r : Found) → (code ≡ 0 → ⊥) → Small r → Coded code r
-coded_by code (F.Reading z) n s = (omega (arith, n), s)
-coded_by code F.Nothing n s = tt
+coded_by : (code : ℕ) (r : Option ℤ) → (code ≡ 0 → ⊥) → Small r → Coded code r
+coded_by code (Some z) n s = (omega (arith, n), s)
+coded_by code None n s = tt
 
 reading_coded : (code : ℕ) (f : List ℕ) → Coded code (reading_in code f)
 unfolding reading_in first_reading
 reading_coded code f =
     let l = drop least_l (bytes_in f) in
-    cond_by (Coded code) (eqb code 0) F.Nothing (first_reading (unit_of code) l) (λ _. tt) (λ e. coded_by code (first_reading (unit_of code) l) (eqb-false code 0 e) (within_small (length l) (unit_of code) l))
+    cond_by (Coded code) (eqb code 0) None (first_reading (unit_of code) l) (λ _. tt) (λ e. coded_by code (first_reading (unit_of code) l) (eqb-false code 0 e) (within_small (length l) (unit_of code) l))
 
 -- ---- what is taken
 
@@ -148,9 +147,9 @@ module _ (meter stamp : ℕ) (m : meter < meters) (l : stamp < 2 ^ 64) where
   unfolding legal_write
   write_legal code z a b = rw (le-leb 0 meter (omega arith), lt-ltb meter meters m, le-leb 1 code a, le-leb code codes b)
 
-  heard_fine : (code : ℕ) (r : Found) → code ≤ codes → Coded code r → WhereTaken (Fine meter stamp) (heard meter stamp code r)
+  heard_fine : (code : ℕ) (r : Option ℤ) → code ≤ codes → Coded code r → WhereTaken (Fine meter stamp) (heard meter stamp code r)
   unfolding heard
-  heard_fine code (F.Reading z) few c e =
+  heard_fine code (Some z) few c e =
       let w : Write = record { meter = meter; code = code; spare = 0; reading = z } in
       let h : meter < 2 ^ 16 = omega arith in
       record {
@@ -159,7 +158,7 @@ module _ (meter stamp : ℕ) (m : meter < meters) (l : stamp < 2 ^ 64) where
         stamped = one_write_stamp stamp w l;
         metered = ap (λ (v : Write). v.meter) (one_write_back stamp w h c.1);
       }
-  heard_fine code F.Nothing few c e = not_taken 17 [] e
+  heard_fine code None few c e = not_taken 17 [] e
 
 pub taken_one : (f : List ℕ) (meter stamp room : ℕ) → stamp < 2 ^ 64 → (from_bus f meter stamp room).said ≡ taken S.Nothing min_text
     → OneWriteTo meter stamp (from_bus f meter stamp room).put

@@ -11,12 +11,11 @@ use lib.IntN.{ℤ}
 use lib.ListN.{length, take, drop, length-drop, length-append, take-append-drop, get_or-append}
 use lib.Seq.{drop_at, drop-drop, length-take-le, get_or-take, get_or-drop}
 use borrow.Author.Tests.{le-leb, eqb-false}
+use Rattle.std.specs.Prelude.{Option, Some, None}
 use Rattle.octets.specs.Lists.{at}
 use Rattle.transaction.specs.Transaction.{meters, min_text}
 use Rattle.protocol.specs.declared.Store.TheVariants as S
 use Rattle.protocol.specs.Said.{taken, Told}
-use Rattle.bus.specs.declared.Found.{Found}
-use Rattle.bus.specs.declared.Found.TheVariants as F
 use Rattle.bus.specs.Frame.{fields_len, header_len, least_l, medium_place, reply_ci, is_reply, long_frame, bytes_in, unbroken}
 use Rattle.bus.specs.Medium.{litres, kilowatt_hours, code_of, unit_of}
 use Rattle.bus.specs.Records.{wanted_dif, first_reading}
@@ -61,7 +60,7 @@ module _ (f : List ℕ) (code : ℕ) (v : ℤ) (b : Built f code v) where
       let h = b.headed in
       ap (λ (s : List ℕ). code_of (at s medium_place)) body_bytes ∙ ap code_of (get_or-append b.header behind 0 7 (omega arith)) ∙ b.coded
 
-  body_read : first_reading (unit_of (code_in f)) (drop least_l (bytes_in f)) ≡ F.Reading v
+  body_read : first_reading (unit_of (code_in f)) (drop least_l (bytes_in f)) ≡ Some v
   body_read =
       ap₂ (λ (n : ℕ) (l : List ℕ). first_reading (unit_of n) l) body_code (ap (drop least_l) body_bytes ∙ drop_at b.header behind header_len b.headed)
       ∙ before_passes (unit_of code) b.records b.before (wanted_dif ∷ unit_of code ∷ (b.content ++ b.rest))
@@ -80,7 +79,7 @@ module _ (f : List ℕ) (code : ℕ) (v : ℤ) (b : Built f code v) where
 -- ---- what is taken was built
 
 module _ (f : List ℕ) (u : unbroken f ≡ true) (v : ℤ) where
-  apart : (code_in f ≡ 0 → ⊥) → first_reading (unit_of (code_in f)) (drop least_l (bytes_in f)) ≡ F.Reading v → Built f (code_in f) v
+  apart : (code_in f ≡ 0 → ⊥) → first_reading (unit_of (code_in f)) (drop least_l (bytes_in f)) ≡ Some v → Built f (code_in f) v
   unfolding code_in
   apart some e =
       let b = bytes_in f in
@@ -109,19 +108,19 @@ module _ (f : List ℕ) (u : unbroken f ≡ true) (v : ℤ) where
             ∙ (λ i. at b 0 ∷ at b 1 ∷ r.2 i ∷ (sym (take-append-drop header_len (drop fields_len b)) ∙ ap (λ (t : List ℕ). take header_len (drop fields_len b) ++ t) records) i));
       }
 
-  heard_apart : reading_in (code_in f) f ≡ F.Reading v → Built f (code_in f) v
+  heard_apart : reading_in (code_in f) f ≡ Some v → Built f (code_in f) v
   unfolding reading_in
   heard_apart e =
       ⊎_elim (λ p. no_reading p.1) (λ q. apart (eqb-false (code_in f) 0 q.0) q.1)
-      (reading_by_law (eqb (code_in f) 0) F.Nothing (first_reading (unit_of (code_in f)) (drop least_l (bytes_in f))) e)
+      (reading_by_law (eqb (code_in f) 0) None (first_reading (unit_of (code_in f)) (drop least_l (bytes_in f))) e)
 
 module _ (f : List ℕ) (meter stamp room : ℕ) where
-  replied : min_text ≤ room → meter < meters → unbroken f ≡ true → (r : Found) → reading_in (code_in f) f ≡ r → (heard meter stamp (code_in f) r).said ≡ taken S.Nothing min_text → TakenReply f meter stamp room
+  replied : min_text ≤ room → meter < meters → unbroken f ≡ true → (r : Option ℤ) → reading_in (code_in f) f ≡ r → (heard meter stamp (code_in f) r).said ≡ taken S.Nothing min_text → TakenReply f meter stamp room
   unfolding heard
-  replied room_fits m u (F.Reading v) e s =
+  replied room_fits m u (Some v) e s =
       let b = heard_apart f u v e in
       record { code = code_in f; reading = v; built = b; taken_as = built_taken f (code_in f) v b meter stamp room m room_fits }
-  replied room_fits m u F.Nothing e s = not_taken 17 [] s
+  replied room_fits m u None e s = not_taken 17 [] s
 
   taken_built : (from_bus f meter stamp room).said ≡ taken S.Nothing min_text → TakenReply f meter stamp room
   taken_built = of_taken (λ _. TakenReply f meter stamp room) f meter stamp room (λ r m u. replied r m u (reading_in (code_in f) f) refl)

@@ -3,7 +3,7 @@
 -- and end the search." "Lent outputs need room for just what they get, unless said": 3, with the 16 bytes of a transaction of one write. The lowest
 -- number is returned, and a refusal puts nothing out.
 -- Assumes nothing.
-use Rattle.std.specs.Prelude.{ℕ, cond, not, List, [], ◌∷◌, leb, ltb, eqb, drop}
+use Rattle.std.specs.Prelude.{ℕ, cond, not, List, [], ◌∷◌, leb, ltb, eqb, drop, ℤ, Option, Some, None, Result, Ok, Err}
 use Rattle.octets.specs.Lists.{at}
 use Rattle.transaction.specs.Transaction.{meters, min_text, one_write}
 use Rattle.protocol.specs.Said.{Said, refused, taken, Told, turn_down}
@@ -11,18 +11,16 @@ use Rattle.protocol.specs.declared.Store.TheVariants as S
 use Rattle.bus.specs.Frame.{least_l, medium_place, bytes_in, unbroken}
 use Rattle.bus.specs.Medium.{code_of, unit_of}
 use Rattle.bus.specs.Records.{first_reading}
-use Rattle.bus.specs.declared.Found.{Found}
-use Rattle.bus.specs.declared.Found.TheVariants as F
-use Rattle.bus.specs.declared.Heard.{Heard}
-use Rattle.bus.specs.declared.Heard.TheVariants as H
+use Rattle.bus.specs.declared.BusError.{BusError}
+use Rattle.bus.specs.declared.BusError.TheVariants as E
 
 -- the numbers and values of the code's answers
-unfoldable pub said_by : Heard → Said
-said_by H.Taken = taken S.Nothing min_text
-said_by (H.Short n) = refused 3 (n ∷ [])
-said_by H.Meter = refused 4 []
-said_by H.Broken = refused 16 []
-said_by H.Unusable = refused 17 []
+unfoldable pub said_by : Result (Unit {0}) BusError → Said
+said_by (Ok u) = taken S.Nothing min_text
+said_by (Err (E.Short n)) = refused 3 (n ∷ [])
+said_by (Err E.Meter) = refused 4 []
+said_by (Err E.Broken) = refused 16 []
+said_by (Err E.Unusable) = refused 17 []
 
 -- ---- of a frame that is not broken
 
@@ -30,13 +28,13 @@ unfoldable pub code_in : List ℕ → ℕ
 code_in f = code_of (at (bytes_in f) medium_place)
 
 -- the reading behind the header, of a code that there is
-unfoldable pub reading_in : ℕ → List ℕ → Found
-reading_in code f = cond (eqb code 0) F.Nothing (first_reading (unit_of code) (drop least_l (bytes_in f)))
+unfoldable pub reading_in : ℕ → List ℕ → Option ℤ
+reading_in code f = cond (eqb code 0) None (first_reading (unit_of code) (drop least_l (bytes_in f)))
 
-unfoldable pub heard : ℕ → ℕ → ℕ → Found → Told
-heard meter stamp code (F.Reading z) =
+unfoldable pub heard : ℕ → ℕ → ℕ → Option ℤ → Told
+heard meter stamp code (Some z) =
     record { said = taken S.Nothing min_text; put = one_write stamp (record { meter = meter; code = code; spare = 0; reading = z }) }
-heard meter stamp code F.Nothing = record { said = refused 17 []; put = [] }
+heard meter stamp code None = record { said = refused 17 []; put = [] }
 
 -- ---- of any frame, with room for so many bytes
 

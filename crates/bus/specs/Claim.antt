@@ -2,15 +2,13 @@
 -- so that a definition that reads them wrongly is found out. The request's tables (reply_c, code_of, unit_of, data_lens, unusable_vif) are taken as they
 -- stand: they are to be read beside it. The proof is in proofs/Theorem.antt.
 -- Assumes nothing.
-use Rattle.std.specs.Prelude.{ℕ, zero, suc, ◌+◌, ◌*◌, ◌/◌, ◌%◌, ◌^◌, ◌<◌, ◌≤◌, ◌≡◌, true, false, List, [], ◌∷◌, ◌++◌, ℤ, pos, negsuc, length}
+use Rattle.std.specs.Prelude.{ℕ, zero, suc, ◌+◌, ◌*◌, ◌/◌, ◌%◌, ◌^◌, ◌<◌, ◌≤◌, ◌≡◌, true, false, List, [], ◌∷◌, ◌++◌, ℤ, pos, negsuc, length, Some}
 use Rattle.octets.specs.Lists.{at}
 use Rattle.transaction.specs.Transaction.{meters, min_text, write_count, stamp_of, meter_at, legal, one_write}
 use Rattle.protocol.specs.declared.State.{State}
 use Rattle.protocol.specs.declared.Store.TheVariants as S
 use Rattle.protocol.specs.Said.{refused, taken}
 use Rattle.protocol.specs.Accept.{accept}
-use Rattle.bus.specs.declared.DataLen.TheVariants as D
-use Rattle.bus.specs.declared.Found.TheVariants as F
 use Rattle.bus.specs.Frame.{header_len, reply_ci, reply_c, is_reply, long_frame, bytes_in, unbroken}
 use Rattle.bus.specs.Medium.{code_of, unit_of}
 use Rattle.bus.specs.Digits.{reading_of}
@@ -62,7 +60,7 @@ pub record Unwanted (unit : ℕ) (r : List ℕ) : Type 0 where
   pub dif_field : Field dif
   pub vif_field : Field vif
   pub no_filler : at dif 0 ≡ filler → ⊥
-  pub sized : data_len (at dif 0) ≡ D.Bytes (length content)
+  pub sized : data_len (at dif 0) ≡ Some (length content)
   pub plain : unusable_vif (at vif 0) ≡ false
   pub other : at dif 0 ≡ wanted_dif → at vif 0 ≡ unit → ⊥
 
@@ -121,7 +119,7 @@ pub record BusClaim : Type 0 where
   pub accept_never_says_4 : (f : List ℕ) (meter stamp room : ℕ) → stamp < 2 ^ 64 → (from_bus f meter stamp room).said ≡ taken S.Nothing min_text
       → (c : State) (lane position : ℕ) → (accept c (from_bus f meter stamp room).put lane position).said ≡ refused 4 [] → ⊥
   -- every number from -9,999,999 to 99,999,999 is the reading of its digits
-  pub every_number_is_read : (v : ℤ) (rest : List ℕ) → EightDigits v → reading_of (bcd v ++ rest) ≡ F.Reading v
+  pub every_number_is_read : (v : ℤ) (rest : List ℕ) → EightDigits v → reading_of (bcd v ++ rest) ≡ Some v
   -- a filler or a whole unwanted record in front of the rest changes nothing
   pub filler_is_passed : (unit : ℕ) (s : List ℕ) → first_reading unit (filler ∷ s) ≡ first_reading unit s
   pub unwanted_is_passed : (unit : ℕ) (r s : List ℕ) → Unwanted unit r → first_reading unit (r ++ s) ≡ first_reading unit s

@@ -3,15 +3,11 @@
 -- a digit above 9 in the one taken and a record that overruns count as unusable and end the search." A record (EN 13757-3) is a DIF, one more
 -- byte while the last one has its top bit set, a VIF, the same again, and data.
 -- Assumes nothing.
-use Rattle.std.specs.Prelude.{ℕ, zero, suc, ◌+◌, ◌%◌, Bool, cond, ◌&&◌, ◌||◌, List, [], ◌∷◌, ltb, eqb, length, get_or, drop}
+use Rattle.std.specs.Prelude.{ℕ, zero, suc, ◌+◌, ◌%◌, Bool, cond, ◌&&◌, ◌||◌, List, [], ◌∷◌, ltb, eqb, length, get_or, drop, ℤ, Option, Some, None}
 use Rattle.octets.specs.Lists.{at}
 use Rattle.bus.specs.Digits.{reading_of}
-use Rattle.bus.specs.declared.DataLen.{DataLen}
-use Rattle.bus.specs.declared.DataLen.TheVariants as D
 use Rattle.bus.specs.declared.Met.{Met}
 use Rattle.bus.specs.declared.Met.TheVariants as M
-use Rattle.bus.specs.declared.Found.{Found}
-use Rattle.bus.specs.declared.Found.TheVariants as F
 
 -- ---- a record
 
@@ -23,12 +19,12 @@ abbrev pub wanted_dif : ℕ
 wanted_dif = 0x0c
 
 -- the data's length, by the DIF's low four bits
-abbrev pub data_lens : List DataLen
+abbrev pub data_lens : List (Option ℕ)
 data_lens =
-    D.Bytes 0 ∷ D.Bytes 1 ∷ D.Bytes 2 ∷ D.Bytes 3 ∷ D.Bytes 4 ∷ D.Bytes 4 ∷ D.Bytes 6 ∷ D.Bytes 8 ∷ D.Bytes 0 ∷ D.Bytes 1 ∷ D.Bytes 2 ∷ D.Bytes 3 ∷ D.Bytes 4 ∷ D.Unusable ∷ D.Bytes 6 ∷ D.Unusable ∷ []
+    Some 0 ∷ Some 1 ∷ Some 2 ∷ Some 3 ∷ Some 4 ∷ Some 4 ∷ Some 6 ∷ Some 8 ∷ Some 0 ∷ Some 1 ∷ Some 2 ∷ Some 3 ∷ Some 4 ∷ None ∷ Some 6 ∷ None ∷ []
 
-unfoldable pub data_len : ℕ → DataLen
-data_len dif = get_or data_lens (dif % 16) D.Unusable
+unfoldable pub data_len : ℕ → Option ℕ
+data_len dif = get_or data_lens (dif % 16) None
 
 -- the length of a DIF or VIF with its extension bytes; where s ends before them it is beyond
 unfoldable pub field_len : List ℕ → ℕ
@@ -53,9 +49,9 @@ wanted unit s = eqb (dif_of s) wanted_dif && eqb (vif_of s) unit
 
 -- ---- what the search meets: something to pass, the record that is taken, or its end
 
-unfoldable pub look_record : DataLen → ℕ → List ℕ → Met
-look_record D.Unusable unit s = M.End
-look_record (D.Bytes size) unit s =
+unfoldable pub look_record : Option ℕ → ℕ → List ℕ → Met
+look_record None unit s = M.End
+look_record (Some size) unit s =
     cond (unusable_vif (vif_of s) || ltb (length s) (record_len size s)) M.End
     (cond (wanted unit s) M.Take (M.Pass (record_len size s)))
 
@@ -71,16 +67,16 @@ look unit s =
 abbrev pub data_place : ℕ
 data_place = 2
 
-unfoldable pub follow : Met → (ℕ → Found) → Found → Found
+unfoldable pub follow : Met → (ℕ → Option ℤ) → Option ℤ → Option ℤ
 follow (M.Pass n) behind here = behind n
 follow M.Take behind here = here
-follow M.End behind here = F.Nothing
+follow M.End behind here = None
 
 -- so many steps at the most, a step for a filler or a record
-unfoldable pub first_within : ℕ → ℕ → List ℕ → Found
-first_within zero unit s = F.Nothing
+unfoldable pub first_within : ℕ → ℕ → List ℕ → Option ℤ
+first_within zero unit s = None
 first_within (suc n) unit s = follow (look unit s) (λ k. first_within n unit (drop k s)) (reading_of (drop data_place s))
 
 -- all of them: a step passes one byte at least
-unfoldable pub first_reading : ℕ → List ℕ → Found
+unfoldable pub first_reading : ℕ → List ℕ → Option ℤ
 first_reading unit s = first_within (length s) unit s

@@ -5,12 +5,12 @@
 // Nothing public has a `requires`.
 #![tactic(auto)]
 
-ghost use Rattle.std.specs.Prelude.{◌≡◌, ◌&&◌, ◌/◌, ◌%◌, leb, length};
+ghost use Rattle.std.specs.Prelude.{◌≡◌, ◌%◌, ◌≤◌, IfSome, length};
 ghost use Rattle.octets.specs.Lists.{put_over};
-ghost use Rattle.bus.specs.Frame.{sum, unbroken};
-ghost use Rattle.bus.specs.Medium.{code_of, unit_of};
-ghost use Rattle.bus.specs.Digits.{reading_of};
-ghost use Rattle.bus.specs.Records.{data_len, field_len, look, first_reading};
+ghost use Rattle.bus.specs.Frame.{sum, reply_c, unbroken};
+ghost use Rattle.bus.specs.Medium.{code_of, listed, unit_of};
+ghost use Rattle.bus.specs.Digits.{pair_of, reading_of};
+ghost use Rattle.bus.specs.Records.{data_len, field_len, unusable_vif, look, first_reading};
 ghost use Rattle.bus.specs.Answer.{said_by, from_bus};
 
 use octets::byte_at;
@@ -51,33 +51,17 @@ const LITRES: u8 = 0x13;
 
 const KILOWATT_HOURS: u8 = 0x06;
 
-// How many bytes of data a DIF announces.
-#[derive(Clone, Copy)]
-enum DataLen {
-    Bytes(usize),
-    Unusable,
-}
-
 // What the search meets: so many bytes to pass, the record that is taken, or its end.
-#[derive(Clone, Copy)]
+#[derive(Clone, Copy, Debug, PartialEq, Eq)]
 enum Met {
     Pass(usize),
     Take,
     End,
 }
 
-// What the search finds.
-#[derive(Clone, Copy)]
-enum Found {
-    Reading(i32),
-    Nothing,
-}
-
-// What `from_bus` answers.
-#[derive(Clone, Copy)]
-pub enum Heard {
-    // The transaction stands at the start of the output.
-    Taken,
+// Why there is no transaction.
+#[derive(Clone, Copy, Debug, PartialEq, Eq)]
+pub enum BusError {
     // The output needs so many bytes.
     Short(usize),
     // There is no such meter.
@@ -92,16 +76,19 @@ pub enum Heard {
 fn sum_of(s: &[u8]) -> u8
     ensures { result ≡ sum s.now % 256 }
 {
-    let mut total: u32 = 0;
-    let mut i: usize = 0;
-    while i < s.len() {
-        total = (total + s[i] as u32) % 256;
-        i += 1;
-    }
-    total as u8
+    s.iter().fold(0, |total: u8, b| total.wrapping_add(*b))
+}
+
+// Whether a C is a reply's.
+#[tactic(auto, unfolding(crate::specs::Frame::reply_c))]
+fn replies(c: u8) -> bool
+    ensures { result ≡ reply_c c }
+{
+    matches!(c, 0x08 | 0x18 | 0x28 | 0x38)
 }
 
 // Whether the bytes are an unbroken frame around a reply.
+#[tactic(auto, using(crate::proofs::FrameLaws::unbroken_is, crate::proofs::FrameLaws::unbroken_long, crate::proofs::FrameLaws::unbroken_short, crate::proofs::FrameLaws::bytes_part))]
 fn unbroken(f: &[u8]) -> bool
     ensures { result ≡ unbroken f.now }
 {
@@ -116,8 +103,7 @@ fn unbroken(f: &[u8]) -> bool
     let end = OPEN_LEN + len;
     let sum = sum_of(&f[OPEN_LEN..end]);
     let last = end + 1;
-    let c = f[C_PLACE];
-    let reply = (c == 0x08) | (c == 0x18) | (c == 0x28) | (c == 0x38);
+    let reply = replies(f[C_PLACE]);
     (f[0] == START)
         & (f[2] == f[1])
         & (f[3] == START)
@@ -127,42 +113,42 @@ fn unbroken(f: &[u8]) -> bool
         & (f[CI_PLACE] == REPLY_CI)
 }
 
-// The code of a medium, and 0 of one that is not listed.
-fn code_of(medium: u8) -> u8
-    ensures { result ≡ code_of medium }
+// The code of a medium, where it is listed.
+#[tactic(auto, unfolding(crate::specs::Medium::code_of, crate::specs::Medium::listed))]
+fn code_of(medium: u8) -> Option<u8>
+    ensures { result ≡ listed (code_of medium) }
 {
     match medium {
-        0x07 | 0x16 => 1,
-        0x06 | 0x15 => 2,
-        0x04 | 0x0c => 3,
-        0x0a | 0x0b => 4,
-        0x00..=0x03 | 0x05 | 0x08..=0x09 | 0x0d..=0x14 | 0x17..=0xff => 0,
+        0x07 | 0x16 => Some(1),
+        0x06 | 0x15 => Some(2),
+        0x04 | 0x0c => Some(3),
+        0x0a | 0x0b => Some(4),
+        0x00..=0x03 | 0x05 | 0x08..=0x09 | 0x0d..=0x14 | 0x17..=0xff => None,
     }
 }
 
 // The VIF of a code's unit.
+#[tactic(auto, unfolding(crate::specs::Medium::unit_of))]
 fn unit_of(code: u8) -> u8
     ensures { result ≡ unit_of code }
 {
-    if code <= 2 {
-        return LITRES;
-    }
-    KILOWATT_HOURS
+    if code <= 2 { LITRES } else { KILOWATT_HOURS }
 }
 
-// The length of the data, by the DIF's low four bits.
-fn data_len(dif: u8) -> DataLen
+// The length of the data, by the DIF's low four bits; none where they make the DIF unusable.
+#[tactic(auto, using(crate::proofs::MediumLaws::len_at))]
+fn data_len(dif: u8) -> Option<usize>
     ensures { result ≡ data_len dif }
 {
     match dif % 16 {
-        0x0 | 0x8 => DataLen::Bytes(0),
-        0x1 | 0x9 => DataLen::Bytes(1),
-        0x2 | 0xa => DataLen::Bytes(2),
-        0x3 | 0xb => DataLen::Bytes(3),
-        0x4 | 0x5 | 0xc => DataLen::Bytes(4),
-        0x6 | 0xe => DataLen::Bytes(6),
-        0x7 => DataLen::Bytes(8),
-        0xd | 0xf..=0xff => DataLen::Unusable,
+        0x0 | 0x8 => Some(0),
+        0x1 | 0x9 => Some(1),
+        0x2 | 0xa => Some(2),
+        0x3 | 0xb => Some(3),
+        0x4 | 0x5 | 0xc => Some(4),
+        0x6 | 0xe => Some(6),
+        0x7 => Some(8),
+        0xd | 0xf..=0xff => None,
     }
 }
 
@@ -170,37 +156,37 @@ fn data_len(dif: u8) -> DataLen
 fn field_len(s: &[u8]) -> usize
     ensures { result ≡ field_len s.now }
 {
-    let mut i: usize = 0;
-    while i < s.len() {
-        if s[i] < 0x80 {
-            return i + 1;
-        }
-        i += 1;
-    }
-    i + 1
+    let last = s.iter().position(|b| *b < 0x80);
+    last.unwrap_or(s.len()) + 1
+}
+
+// Whether the search ends at this VIF.
+#[tactic(auto, unfolding(crate::specs::Records::unusable_vif))]
+fn unusable(vif: u8) -> bool
+    ensures { result ≡ unusable_vif vif }
+{
+    matches!(vif, 0x7c | 0xfc)
 }
 
 // What the search for a record in this unit meets at the start of s.
+#[tactic(auto, using(crate::proofs::LookLaws::get_past, crate::proofs::FieldLaws::field_bound, crate::proofs::FieldLaws::field_some, crate::proofs::MediumLaws::len_small), unfolding(crate::specs::Records::look, crate::specs::Records::look_record, crate::specs::Records::record_len, crate::specs::Records::wanted))]
 fn look(s: &[u8], unit: u8) -> Met
     ensures { result ≡ look unit s.now }
 {
-    if s.len() == 0 {
+    let Some(&dif) = s.first() else {
         return Met::End;
-    }
-    let dif = s[0];
+    };
     if dif == FILLER {
         return Met::Pass(1);
     }
-    let announced = data_len(dif);
-    let DataLen::Bytes(data) = announced else {
+    let Some(data) = data_len(dif) else {
         return Met::End;
     };
     let d = field_len(s);
-    if s.len() <= d {
+    let Some(&vif) = s.get(d) else {
         return Met::End;
-    }
-    let vif = s[d];
-    if (vif == 0x7c) | (vif == 0xfc) {
+    };
+    if unusable(vif) {
         return Met::End;
     }
     let v = field_len(&s[d..]);
@@ -214,87 +200,84 @@ fn look(s: &[u8], unit: u8) -> Met
     Met::Pass(whole)
 }
 
-// Whether neither digit of a byte is above 9.
-fn two_digits(b: u8) -> bool
-    ensures { result ≡ leb (b % 16) 9 && leb (b / 16) 9 }
+// The number that the two digits of a byte write, or none where one of them is above 9.
+#[tactic(auto, unfolding(crate::specs::Digits::pair_of))]
+fn two_digits(b: u8) -> Option<u32>
+    ensures value { result ≡ pair_of b }
+    ensures small { IfSome result (λ n. n ≤ 99) }
 {
-    (b % 16 <= 9) & (b / 16 <= 9)
+    let low = b % 16;
+    let high = b / 16;
+    if 9 < low || 9 < high {
+        return None;
+    }
+    Some(low as u32 + high as u32 * 10)
 }
 
 // The reading that the eight digits at the start of s write, or none.
-fn reading_of(s: &[u8]) -> Found
+#[tactic(auto, using(crate::proofs::DigitLaws::reading_first, crate::proofs::DigitLaws::reading_second, crate::proofs::DigitLaws::reading_third, crate::proofs::DigitLaws::reading_seventh, crate::proofs::DigitLaws::reading_plain, crate::proofs::DigitLaws::reading_minus, crate::proofs::DigitLaws::reading_none, crate::proofs::DigitLaws::minus_fits))]
+fn reading_of(s: &[u8]) -> Option<i32>
     ensures { result ≡ reading_of s.now }
 {
-    let a = byte_at(s, 0);
-    let b = byte_at(s, 1);
-    let c = byte_at(s, 2);
-    let d = byte_at(s, 3);
-    let seventh = d % 16;
-    let top = d / 16;
-    let low = two_digits(a) & two_digits(b) & two_digits(c) & (seventh <= 9);
-    let first = (a % 16) as u32 + (a / 16) as u32 * 10;
-    let second = (b % 16) as u32 + (b / 16) as u32 * 10;
-    let third = (c % 16) as u32 + (c / 16) as u32 * 10;
+    let first = two_digits(byte_at(s, 0))?;
+    let second = two_digits(byte_at(s, 1))?;
+    let third = two_digits(byte_at(s, 2))?;
+    let last = byte_at(s, 3);
+    let seventh = last % 16;
+    if 9 < seventh {
+        return None;
+    }
     let seven = first + second * 100 + third * 10_000 + seventh as u32 * 1_000_000;
-    if low & (top <= 9) {
-        let all = seven + top as u32 * 10_000_000;
-        return Found::Reading(all as i32);
+    let top = last / 16;
+    match top {
+        0..=9 => Some((seven + top as u32 * 10_000_000) as i32),
+        0xf => Some(0 - seven as i32),
+        0xa..=0xe | 0x10..=0xff => None,
     }
-    if low & (top == 0xf) {
-        let z = seven as i32;
-        return Found::Reading(0 - z);
-    }
-    Found::Nothing
 }
 
 // The reading of the first record in this unit, searched from the start of s to its end.
-fn first_reading(s: &[u8], unit: u8) -> Found
+fn first_reading(s: &[u8], unit: u8) -> Option<i32>
     ensures { result ≡ first_reading unit s.now }
 {
-    let mut at: usize = 0;
-    while at < s.len() {
-        let met = look(&s[at..], unit);
-        match met {
+    let mut rest = s;
+    loop {
+        match look(rest, unit) {
             Met::Pass(n) => {
-                at += n;
+                rest = &rest[n..];
             }
             Met::Take => {
-                let data = at + DATA_PLACE;
-                return reading_of(&s[data..]);
+                return reading_of(&rest[DATA_PLACE..]);
             }
             Met::End => {
-                return Found::Nothing;
+                return None;
             }
         }
     }
-    Found::Nothing
 }
 
 // Puts the reading of an M-Bus reply at the start of out, as a transaction of one write to this meter with this stamp. It
 // refuses, lowest number first, an output with no room for the 16 bytes, a meter that there is not, a broken frame, and one
 // without a usable record; out is then as it came.
-pub fn from_bus(frame: &[u8], meter: u16, stamp: u64, out: &mut [u8]) -> Heard
+pub fn from_bus(frame: &[u8], meter: u16, stamp: u64, out: &mut [u8]) -> Result<(), BusError>
     ensures answer { said_by result ≡ (from_bus frame.now meter stamp (length out.old)).said }
     ensures bytes { out.new ≡ put_over (from_bus frame.now meter stamp (length out.old)).put out.old }
 {
     if out.len() < MIN_TEXT {
-        return Heard::Short(MIN_TEXT);
+        return Err(BusError::Short(MIN_TEXT));
     }
     if METERS <= meter as usize {
-        return Heard::Meter;
+        return Err(BusError::Meter);
     }
     if !unbroken(frame) {
-        return Heard::Broken;
+        return Err(BusError::Broken);
     }
-    let code = code_of(frame[MEDIUM_PLACE]);
-    if code == 0 {
-        return Heard::Unusable;
-    }
-    let unit = unit_of(code);
+    let Some(code) = code_of(frame[MEDIUM_PLACE]) else {
+        return Err(BusError::Unusable);
+    };
     let end = frame.len() - CLOSE_LEN;
-    let found = first_reading(&frame[RECORDS_PLACE..end], unit);
-    let Found::Reading(reading) = found else {
-        return Heard::Unusable;
+    let Some(reading) = first_reading(&frame[RECORDS_PLACE..end], unit_of(code)) else {
+        return Err(BusError::Unusable);
     };
     let w = Write {
         meter,
@@ -304,5 +287,5 @@ pub fn from_bus(frame: &[u8], meter: u16, stamp: u64, out: &mut [u8]) -> Heard
     };
     let t = transaction::one_write(stamp, w);
     octets::copy(&t, out);
-    Heard::Taken
+    Ok(())
 }

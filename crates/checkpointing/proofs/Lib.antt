@@ -1,2 +1,1 @@
--- CheckpointLaws: each way out of Checkpoint is the definition's.
-pub mod CheckpointLaws
+-- The proofs are those of the functions.

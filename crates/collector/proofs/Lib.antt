@@ -1,2 +1,1 @@
--- BackLaws: what a method hands back.
-pub mod BackLaws
+-- The proofs are those of the functions.

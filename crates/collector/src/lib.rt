@@ -33,13 +33,15 @@ pub struct Handed {
 }
 
 // An answer, handed back.
-fn handed_back(a: Answer) -> Handed
-    ensures { result ≡ handed_back a }
-{
-    let state = a.state;
-    let outcome = a.outcome;
-    let collector = Collector { state };
-    Handed { collector, outcome }
+impl From<Answer> for Handed {
+    ghost from_gives = { λ a h. h ≡ handed_back a };
+
+    fn from(a: Answer) -> Handed {
+        Handed {
+            collector: Collector { state: a.state },
+            outcome: a.outcome,
+        }
+    }
 }
 
 impl Collector {
@@ -48,16 +50,14 @@ impl Collector {
     pub fn load(x: Vault, key: &[u8]) -> Handed
         ensures { shown_as (answered result) [] ≡ load x key.now }
     {
-        let a = loading::load(x, key);
-        handed_back(a)
+        Handed::from(loading::load(x, key))
     }
 
     // Accept: a transaction is held under the next number of its lane. Names the store of W. Refuses with 1 and 4 to 8.
     pub fn accept(self, transaction: &[u8], lane: u8, position: u64) -> Handed
         ensures { shown_as (answered result) [] ≡ accept self.state transaction.now lane position }
     {
-        let a = accepting::accept(self.state, transaction, lane, position);
-        handed_back(a)
+        Handed::from(accepting::accept(self.state, transaction, lane, position))
     }
 
     // Seal: the record of the transaction held, at the start of out. Names the record's store. Refuses with 1 and 3.
@@ -65,8 +65,7 @@ impl Collector {
         ensures answer { shown_as (answered result) (seal self.state (length out.old)).put ≡ seal self.state (length out.old) }
         ensures bytes { out.new ≡ put_over (seal self.state (length out.old)).put out.old }
     {
-        let a = accepting::seal(self.state, out);
-        handed_back(a)
+        Handed::from(accepting::seal(self.state, out))
     }
 
     // Commit: the bytes of a record, from the card, make its transaction visible. Names the store of V. Refuses with 1, 9,
@@ -74,16 +73,14 @@ impl Collector {
     pub fn commit(self, bytes: &[u8]) -> Handed
         ensures { shown_as (answered result) [] ≡ commit self.state bytes.now }
     {
-        let a = committing::commit(self.state, bytes);
-        handed_back(a)
+        Handed::from(committing::commit(self.state, bytes))
     }
 
     // Point: a position below which every accepted record is visible. Names no store. Refuses with 1, 6, 7 and 15.
     pub fn point(self, position: u64) -> Handed
         ensures { shown_as (answered result) [] ≡ point self.state position }
     {
-        let a = pointing::point(self.state, position);
-        handed_back(a)
+        Handed::from(pointing::point(self.state, position))
     }
 
     // Checkpoint, in three calls: the store of N, the file at the start of out, the store of S. Refuses with 1, 3 and 8.
@@ -91,16 +88,14 @@ impl Collector {
         ensures answer { shown_as (answered result) (checkpoint self.state (length out.old)).put ≡ checkpoint self.state (length out.old) }
         ensures bytes { out.new ≡ put_over (checkpoint self.state (length out.old)).put out.old }
     {
-        let a = checkpointing::checkpoint(self.state, out);
-        handed_back(a)
+        Handed::from(checkpointing::checkpoint(self.state, out))
     }
 
     // Truncate at a covered point, in nine calls: the stores of R of lanes 0 to 7, and the deletion. Refuses with 1 and 14.
     pub fn truncate(self, position: u64) -> Handed
         ensures { shown_as (answered result) [] ≡ truncate self.state position }
     {
-        let a = truncating::truncate(self.state, position);
-        handed_back(a)
+        Handed::from(truncating::truncate(self.state, position))
     }
 
     // Recover, in 15 or 24 calls: the first reads checkpoint and log, and names the first store; the others name the other
@@ -109,8 +104,7 @@ impl Collector {
         ensures answer { shown_as (answered result) (recover self.state file.now log.now (length out.old)).put ≡ recover self.state file.now log.now (length out.old) }
         ensures bytes { out.new ≡ put_over (recover self.state file.now log.now (length out.old)).put out.old }
     {
-        let a = recovering::recover(self.state, file, log, out);
-        handed_back(a)
+        Handed::from(recovering::recover(self.state, file, log, out))
     }
 
     // ---- for whoever keeps or makes a state
@@ -142,8 +136,7 @@ impl Collector {
     pub fn reading(self, meter: u8) -> Entry
         ensures { result ≡ get_or self.state.table.entries meter no_entry }
     {
-        let entries = self.state.table.entries;
-        entries[meter as usize]
+        self.state.table.entries[usize::from(meter)]
     }
 
     // The vault's 27 numbers, as they stand when the store named last is done.
@@ -157,18 +150,14 @@ impl Collector {
     pub fn phase(self) -> Phase
         ensures { result ≡ self.state.phase }
     {
-        let state = self.state;
-        let phase = state.phase;
-        phase
+        self.state.phase
     }
 
     // The store that is due, if one is: then only the call that names it, or a Load, is taken.
     pub fn due(self) -> Due
         ensures { result ≡ self.state.due }
     {
-        let state = self.state;
-        let due = state.due;
-        due
+        self.state.due
     }
 
     // How many accepted records are listed, of the 128 that may stand at or above the newest point.

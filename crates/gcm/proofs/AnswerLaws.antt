@@ -18,9 +18,10 @@ use Rattle.aes.specs.Counter.{inc32, gctr}
 use Rattle.aes.proofs.CounterLaws.{gctr_length}
 use Rattle.gcm.specs.Gcm.{max_plain, max_data, pre_counter, only_if, cipher_text, tag_of, sealed, opened}
 use Rattle.gcm.specs.Answers.{beyond, sealing, seal_put, text_answer, text_put, open_answer, open_put, sealed_in, text_in, opening, opened_in}
-use Rattle.gcm.specs.declared.Sealing.TheVariants as S
-use Rattle.gcm.specs.declared.Opening.{Opening}
-use Rattle.gcm.specs.declared.Opening.TheVariants as O
+use Rattle.gcm.specs.declared.SealError.TheVariants as S
+use Rattle.gcm.specs.declared.OpenError.{OpenError}
+use Rattle.gcm.specs.declared.OpenError.TheVariants as O
+use Rattle.std.specs.Prelude.{Result, Ok, Err}
 use Rattle.gcm.proofs.SealLaws.{length_cipher_text, length_tag}
 
 pub within_text : (n d : ℕ) → beyond n d ≡ false → n ≤ max_plain
@@ -31,18 +32,17 @@ within_data n d e = ltb-false max_data d (or_right (ltb max_plain n) (ltb max_da
 
 module _ (ciph : List ℕ → List ℕ) (whole : (b : List ℕ) → 16 ≤ length (ciph b)) (iv : List ℕ) where
   -- a ciphertext copied into the buffer out, and counter mode over it
-  pub text_put_law : (s out o x : List ℕ) (n j k : ℕ) → n ≤ length s → n ≤ length out → o ≡ over (take n s) out → k ≡ pre_counter iv → j ≡ inc32 k → x ≡ gctr ciph j (take n o)
+  pub text_put_law : (s out o x : List ℕ) (n j k : ℕ) → n ≤ length s → o ≡ take n s ++ drop n out → k ≡ pre_counter iv → j ≡ inc32 k → x ≡ gctr ciph j (take n o)
       → x ++ drop n o ≡ put_over (cipher_text ciph iv (take n s)) out
   unfolding cipher_text
-  text_put_law s out o x n j k hs ho eo ek ej ex =
+  text_put_law s out o x n j k hs eo ek ej ex =
       let c = take n s in
       let l : length c ≡ n = length-take-le n s hs in
-      let e : o ≡ c ++ drop n out = eo ∙ over_room c out (omega arith) ∙ ap (λ (i : ℕ). c ++ drop i out) l in
       let p = gctr ciph (inc32 (pre_counter iv)) c in
       let lp : length p ≡ n = gctr_length ciph whole (inc32 (pre_counter iv)) c ∙ l in
       ap₂ (λ (a b : List ℕ). a ++ b)
-      (ex ∙ ap₂ (λ (i : ℕ) (t : List ℕ). gctr ciph i t) (ej ∙ ap inc32 ek) (ap (take n) e ∙ take_at c (drop n out) n l))
-      (ap (drop n) e ∙ drop_at c (drop n out) n l ∙ ap (λ (i : ℕ). drop i out) (sym lp))
+      (ex ∙ ap₂ (λ (i : ℕ) (t : List ℕ). gctr ciph i t) (ej ∙ ap inc32 ek) (ap (take n) eo ∙ take_at c (drop n out) n l))
+      (ap (drop n) eo ∙ drop_at c (drop n out) n l ∙ ap (λ (i : ℕ). drop i out) (sym lp))
 
   -- the text encrypted in its place, and the tag put behind it
   pub seal_put_law : (dot : ℕ → ℕ) (a b x y : List ℕ) (n j k : ℕ) (t : List ℕ) → n + 16 ≤ length b → k ≡ pre_counter iv → j ≡ inc32 k → x ≡ gctr ciph j (take n b)
@@ -72,48 +72,48 @@ module _ (ciph : List ℕ → List ℕ) (whole : (b : List ℕ) → 16 ≤ lengt
 -- ---- answers
 
 module _ (ciph : List ℕ → List ℕ) (dot : ℕ → ℕ) (iv a : List ℕ) (n : ℕ) (s : List ℕ) where
-  pub seal_long : beyond n (length a) ≡ true → (S.Long ≡ sealing (length a) n (length s)) × (s ≡ sealed_in ciph dot iv a n s)
+  pub seal_long : beyond n (length a) ≡ true → (Err S.Long ≡ sealing (length a) n (length s)) × (s ≡ sealed_in ciph dot iv a n s)
   unfolding sealing sealed_in seal_put
   seal_long e = (rw e, rw e)
 
-  pub seal_short : beyond n (length a) ≡ false → length s < n + 16 → (S.Short (n + 16) ≡ sealing (length a) n (length s)) × (s ≡ sealed_in ciph dot iv a n s)
+  pub seal_short : beyond n (length a) ≡ false → length s < n + 16 → (Err (S.Short (n + 16)) ≡ sealing (length a) n (length s)) × (s ≡ sealed_in ciph dot iv a n s)
   unfolding sealing sealed_in seal_put
   seal_short e h = (rw (e, lt-ltb (length s) (n + 16) h), rw (e, lt-ltb (length s) (n + 16) h))
 
   pub seal_done : (r : List ℕ) → beyond n (length a) ≡ false → n + 16 ≤ length s → r ≡ put_over (sealed ciph dot iv a (take n s)) s
-      → (S.Done ≡ sealing (length a) n (length s)) × (r ≡ sealed_in ciph dot iv a n s)
+      → (Ok tt ≡ sealing (length a) n (length s)) × (r ≡ sealed_in ciph dot iv a n s)
   unfolding sealing sealed_in seal_put
   seal_done r e h er = (rw (e, le-ltb (length s) (n + 16) h), rw (e, le-ltb (length s) (n + 16) h) er)
 
 module _ (ciph : List ℕ → List ℕ) (dot : ℕ → ℕ) (iv a s t : List ℕ) where
-  pub open_none : length s < 16 → (O.Fail ≡ opening ciph dot iv a s (length t)) × (t ≡ opened_in ciph dot iv a s t)
+  pub open_none : length s < 16 → (Err O.Fail ≡ opening ciph dot iv a s (length t)) × (t ≡ opened_in ciph dot iv a s t)
   unfolding opening open_answer opened_in open_put
   open_none h = (rw (lt-ltb (length s) 16 h), rw (lt-ltb (length s) 16 h))
 
   module _ (h : 16 ≤ length s) where
-    pub open_long : beyond (length s - 16) (length a) ≡ true → (O.Long ≡ opening ciph dot iv a s (length t)) × (t ≡ opened_in ciph dot iv a s t)
+    pub open_long : beyond (length s - 16) (length a) ≡ true → (Err O.Long ≡ opening ciph dot iv a s (length t)) × (t ≡ opened_in ciph dot iv a s t)
     unfolding opening open_answer opened_in open_put
     open_long e = (rw (le-ltb (length s) 16 h, e), rw (le-ltb (length s) 16 h, e))
 
     pub open_short : beyond (length s - 16) (length a) ≡ false → length t < length s - 16
-        → (O.Short (length s - 16) ≡ opening ciph dot iv a s (length t)) × (t ≡ opened_in ciph dot iv a s t)
+        → (Err (O.Short (length s - 16)) ≡ opening ciph dot iv a s (length t)) × (t ≡ opened_in ciph dot iv a s t)
     unfolding opening open_answer opened_in open_put
     open_short e g = (rw (le-ltb (length s) 16 h, e, lt-ltb (length t) (length s - 16) g), rw (le-ltb (length s) 16 h, e, lt-ltb (length t) (length s - 16) g))
 
     -- the tests on lengths are passed: the answer is decryption's
     module _ (e : beyond (length s - 16) (length a) ≡ false) (g : length s - 16 ≤ length t) where
       pub open_fails : same_bytes (drop (length s - 16) s) (tag_of ciph dot iv a (take (length s - 16) s)) ≡ false
-          → (O.Fail ≡ opening ciph dot iv a s (length t)) × (t ≡ opened_in ciph dot iv a s t)
+          → (Err O.Fail ≡ opening ciph dot iv a s (length t)) × (t ≡ opened_in ciph dot iv a s t)
       unfolding opening open_answer opened_in open_put text_answer opened only_if
       open_fails w = (rw (le-ltb (length s) 16 h, e, le-ltb (length t) (length s - 16) g, w), rw (le-ltb (length s) 16 h, e, le-ltb (length t) (length s - 16) g, w))
 
       pub open_opens : (whole : (b : List ℕ) → 16 ≤ length (ciph b)) (r : List ℕ) → same_bytes (drop (length s - 16) s) (tag_of ciph dot iv a (take (length s - 16) s)) ≡ true
           → r ≡ put_over (cipher_text ciph iv (take (length s - 16) s)) t
-          → (O.Text (length s - 16) ≡ opening ciph dot iv a s (length t)) × (r ≡ opened_in ciph dot iv a s t)
+          → (Ok (length s - 16) ≡ opening ciph dot iv a s (length t)) × (r ≡ opened_in ciph dot iv a s t)
       unfolding opening open_answer opened_in open_put text_answer text_put opened only_if
       open_opens whole r w er = (
         rw (le-ltb (length s) 16 h, e, le-ltb (length t) (length s - 16) g, w)
-            (ap O.Text (sym (length_cipher_text ciph whole dot iv (take (length s - 16) s) ∙ length-take-le (length s - 16) s (omega arith)))),
+            (ap Ok (sym (length_cipher_text ciph whole dot iv (take (length s - 16) s) ∙ length-take-le (length s - 16) s (omega arith)))),
         rw (le-ltb (length s) 16 h, e, le-ltb (length t) (length s - 16) g, w) er,
       )
 
@@ -139,5 +139,5 @@ module _ (ciph : List ℕ → List ℕ) (dot : ℕ → ℕ) (iv a s t : List ℕ
   pub opened_within : opened_in ciph dot iv a s t ≡ put_over (text_put (text_in ciph dot iv a s)) t
   unfolding opened_in
   opened_within =
-      ap (λ (x : Opening). put_over (open_put x (text_in ciph dot iv a s)) t) answer_within
+      ap (λ (x : Result ℕ OpenError). put_over (open_put x (text_in ciph dot iv a s)) t) answer_within
       ∙ ap (λ (p : List ℕ). put_over p t) (put_text_answer (text_in ciph dot iv a s))

@@ -1,25 +1,22 @@
 -- Preparing a key makes its functions the standard's.
 -- Assumes nothing.
-use mathlib.Core.Path.{◌≡◌, refl, sym, ap, ap₂, ◌∙◌}
+use mathlib.Core.Path.{◌≡◌, ap, ap₂, ◌∙◌}
 use mathlib.Core.List.{List, ◌++◌}
-use mathlib.Core.Option.{Option, some}
-use Prim.Native.Nat.{ℕ, ◌+◌, ◌≤◌}
-use native.Mathlib.Nat.{le_of_eq}
+use mathlib.Core.Option.{some}
+use Prim.Native.Nat.{ℕ, ◌+◌}
 use lib.Dec.{eqb}
 use lib.ListN.{length, take, drop}
-use Rattle.octets.specs.Bytes.{bytes_of, number, same_bytes}
+use Rattle.octets.specs.Bytes.{bytes_of, same_bytes}
 use Rattle.aes_key.specs.Schedule.{key_expansion}
 use Rattle.aes.specs.Cipher.{cipher}
 use Rattle.aes.specs.Counter.{gctr}
-use Rattle.aes.proofs.CounterLaws.{cipher_length}
-use Rattle.ghash.specs.Ghash.{blocks_of, ghash}
 use Rattle.ghash.specs.Multiples.{product_by, multiples_of, multiples_in}
 use Rattle.ghash.proofs.HashLaws.{ghash_same}
 use Rattle.ghash.proofs.TableLaws.{product_is}
 use Rattle.gcm.specs.Gcm.{pre_counter, only_if, hash_of, tag_of, cipher_text, sealed, opened, subkey, aes_under, dot_under, encrypted, decrypted}
 use Rattle.gcm.specs.Key.{prepared}
 use Rattle.gcm.specs.declared.Key.{Key}
-use Rattle.gcm.proofs.SealLaws.{length_sealed, opens_sealed}
+use Rattle.gcm.proofs.SealLaws.{cipher_whole, length_sealed, opens_sealed}
 
 -- two products that agree everywhere give one tag
 module _ (f g : ℕ → ℕ) (agree : (x : ℕ) → f x ≡ g x) where
@@ -63,14 +60,11 @@ unfolding prepared decrypted
 prepared_decrypts key iv a c t =
     same_opened (product_by (multiples_of (subkey (aes_under key)))) (dot_under key) (λ x. product_is (subkey (aes_under key)) x) (aes_under key) iv a c t
 
-whole : (key b : List ℕ) → 16 ≤ length (aes_under key b)
-whole key b = le_of_eq (sym (cipher_length (key_expansion key) b))
-
 -- AES-128-GCM: lengths, and decryption of what was encrypted
 pub length_encrypted : (key iv a p : List ℕ) → length (encrypted key iv a p) ≡ length p + 16
 unfolding encrypted
-length_encrypted key iv a p = length_sealed (aes_under key) (whole key) (dot_under key) iv a p
+length_encrypted key iv a p = length_sealed (aes_under key) (cipher_whole (key_expansion key)) (dot_under key) iv a p
 
 pub decrypts : (key iv a p : List ℕ) (n : ℕ) → n ≡ length p → decrypted key iv a (take n (encrypted key iv a p)) (drop n (encrypted key iv a p)) ≡ some p
 unfolding encrypted decrypted
-decrypts key iv a p n e = opens_sealed (aes_under key) (whole key) (dot_under key) iv a p n e
+decrypts key iv a p n e = opens_sealed (aes_under key) (cipher_whole (key_expansion key)) (dot_under key) iv a p n e

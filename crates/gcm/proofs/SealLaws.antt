@@ -1,20 +1,22 @@
 -- The hash in parts, the pre-counter block, the tag, and that what was sealed opens.
 -- Assumes nothing.
 use mathlib.Core.Path.{◌≡◌, refl, sym, ap, ap₂, ◌∙◌}
-use mathlib.Core.Bool.{true}
 use mathlib.Core.List.{List, [], ◌∷◌, ◌++◌, append-nil}
-use mathlib.Core.Option.{Option, some}
-use Prim.Native.Nat.{ℕ, ◌+◌, ◌*◌, ◌^◌, ◌<◌, ◌≤◌}
-use native.Mathlib.Nat.{le_of_eq, zero-add}
+use mathlib.Core.Option.{some}
+use Prim.Native.Nat.{ℕ, ◌+◌, ◌*◌, ◌^◌, ◌≤◌}
+use native.Mathlib.Nat.{le_of_eq}
 use native.Mathlib.Omega.{arith}
 use lib.Bits.{bit_xor}
+use Rattle.std.specs.Int.{w64, from_be_bytes}
 use lib.ListN.{length, get_or, take, drop, length-append, drop_of_length-le}
 use lib.Seq.{take_all, take_at, drop_at, get_or-drop}
-use Rattle.octets.specs.Bytes.{number_from, number, bytes_of, padded, xor_bytes, same_bytes}
-use Rattle.octets.proofs.ByteLaws.{eight, padded_whole, padded_split, padded_from, length_padded, number_split, length_bytes, bytes_xor, block_read}
+use Rattle.octets.specs.Bytes.{number_from, number, bytes_of, padded, xor_bytes}
+use Rattle.octets.proofs.ByteLaws.{eight, padded_whole, padded_split, padded_from, number_split, length_bytes, bytes_xor}
+use Rattle.octets.proofs.WidthLaws.{be_number}
 use Rattle.octets.proofs.SameLaws.{same_refl}
+use Rattle.aes.specs.Cipher.{cipher}
 use Rattle.aes.specs.Counter.{inc32, gctr}
-use Rattle.aes.proofs.CounterLaws.{gctr_more, gctr_none, gctr_length, gctr_undoes}
+use Rattle.aes.proofs.CounterLaws.{cipher_length, gctr_more, gctr_none, gctr_length, gctr_undoes}
 use Rattle.ghash.specs.Ghash.{blocks_of, ghash}
 use Rattle.ghash.proofs.HashLaws.{ghash_append}
 use Rattle.gcm.specs.Gcm.{pre_counter, only_if, hash_of, tag_of, cipher_text, sealed, opened}
@@ -35,29 +37,27 @@ four : (l : List ℕ) → padded 4 l ≡ get_or l 0 0 ∷ get_or l 1 0 ∷ get_o
 unfolding padded
 four l = rw (padded_from 3 0 l, padded_from 2 1 l, padded_from 1 2 l, padded_from 0 3 l)
 
-last_word : (a b c d : ℕ) → number (a ∷ b ∷ c ∷ d ∷ 0 ∷ 0 ∷ 0 ∷ 1 ∷ []) ≡ number (a ∷ b ∷ c ∷ d ∷ []) * 2 ^ 32 + 1
-unfolding number number_from
-last_word a b c d = omega arith
+-- the IV's bytes, one by one, and a counter of 1
+abbrev eight_of : List ℕ → List ℕ
+eight_of iv = get_or iv 0 0 ∷ get_or iv 1 0 ∷ get_or iv 2 0 ∷ get_or iv 3 0 ∷ get_or iv 4 0 ∷ get_or iv 5 0 ∷ get_or iv 6 0 ∷ get_or iv 7 0 ∷ []
 
-pair : (h n : ℕ) → h * 2 ^ 64 + (n * 2 ^ 32 + 1) ≡ (h * 256 ^ 4 + n) * 2 ^ 32 + 1
-pair h n = omega arith
+abbrev four_of : List ℕ → List ℕ
+four_of iv = get_or iv 8 0 ∷ get_or iv 9 0 ∷ get_or iv 10 0 ∷ get_or iv 11 0 ∷ []
 
-twelve : (iv : List ℕ) → length iv ≡ 12 → number (padded 8 iv) * 256 ^ 4 + number (padded 4 (drop 8 iv)) ≡ number iv
+abbrev one : List ℕ
+one = 0 ∷ 0 ∷ 0 ∷ 1 ∷ []
+
+twelve : (iv : List ℕ) → length iv ≡ 12 → eight_of iv ++ four_of iv ≡ iv
 twelve iv e =
-    sym (ap number (sym (padded_whole 12 iv e) ∙ padded_split 8 4 iv) ∙ number_split (padded 8 iv) (padded 4 (drop 8 iv)) 4 (length_padded 4 (drop 8 iv)))
+    sym (sym (padded_whole 12 iv e) ∙ padded_split 8 4 iv ∙ ap₂ (λ (s t : List ℕ). s ++ t) (eight iv) (four (drop 8 iv) ∙ simp get_or-drop))
 
-pub pre_words : (iv : List ℕ) (h l : ℕ) → length iv ≡ 12
-    → h ≡ number (get_or iv 0 0 ∷ get_or iv 1 0 ∷ get_or iv 2 0 ∷ get_or iv 3 0 ∷ get_or iv 4 0 ∷ get_or iv 5 0 ∷ get_or iv 6 0 ∷ get_or iv 7 0 ∷ [])
-    → l ≡ number (get_or iv 8 0 ∷ get_or iv 9 0 ∷ get_or iv 10 0 ∷ get_or iv 11 0 ∷ 0 ∷ 0 ∷ 0 ∷ 1 ∷ [])
+pub pre_words : (iv : List ℕ) (h l : ℕ) → length iv ≡ 12 → h ≡ from_be_bytes w64 (eight_of iv) → l ≡ from_be_bytes w64 (four_of iv ++ one)
     → h * 2 ^ 64 + l ≡ pre_counter iv
-unfolding pre_counter
+unfolding pre_counter number number_from
 pre_words iv h l e eh el =
-    let right : l ≡ number (padded 4 (drop 8 iv)) * 2 ^ 32 + 1 =
-    el ∙ last_word (get_or iv 8 0) (get_or iv 9 0) (get_or iv 10 0) (get_or iv 11 0)
-    ∙ ap (λ (s : List ℕ). number s * 2 ^ 32 + 1) (sym (four (drop 8 iv) ∙ simp get_or-drop))
-    in
-    ap₂ (λ (x y : ℕ). x * 2 ^ 64 + y) (eh ∙ ap number (sym (eight iv))) right
-    ∙ pair (number (padded 8 iv)) (number (padded 4 (drop 8 iv))) ∙ ap (λ (n : ℕ). n * 2 ^ 32 + 1) (twelve iv e)
+    ap₂ (λ (x y : ℕ). x * 2 ^ 64 + y) (eh ∙ be_number 7 (eight_of iv) refl) (el ∙ be_number 7 (four_of iv ++ one) refl)
+    ∙ sym (number_split (eight_of iv) (four_of iv ++ one) 8 refl) ∙ number_split (eight_of iv ++ four_of iv) one 4 refl
+    ∙ ap (λ (s : List ℕ). number s * 2 ^ 32 + 1) (twelve iv e)
 
 -- ---- the tag
 
@@ -80,6 +80,10 @@ module _ (ciph : List ℕ → List ℕ) where
       ∙ sym (gctr_one (pre_counter iv) (bytes_of 16 (hash_of dot a c)) (length_bytes 16 (hash_of dot a c)))
 
 -- ---- lengths, and that what was sealed opens
+
+-- the cipher under a schedule gives whole blocks
+pub cipher_whole : (w b : List ℕ) → 16 ≤ length (cipher w b)
+cipher_whole w b = le_of_eq (sym (cipher_length w b))
 
 module _ (ciph : List ℕ → List ℕ) (whole : (b : List ℕ) → 16 ≤ length (ciph b)) (dot : ℕ → ℕ) where
   pub length_cipher_text : (iv p : List ℕ) → length (cipher_text ciph iv p) ≡ length p

@@ -4,7 +4,7 @@
 // A prepared key is a struct by value: the round keys, and the hash key as the table of its multiples. The functions
 // promise GCM over those round keys and that table, whatever they are, so nothing public has a `requires`; a law says
 // that preparing a key makes it AES-128-GCM under that key (`prepared-encrypts`, `prepared-decrypts`, in
-// proofs/KeyLaws.antt). `seal_with` and `open_with` borrow the two parts, for a caller who opens many texts; `seal` and
+// proofs/KeyLaws.antt). A `KeyRef` lends the two parts, for a caller who seals and opens many texts; `Key`'s own `seal` and
 // `open` are the same on the struct.
 //
 // Decryption compares the whole tag before it writes a byte.
@@ -18,7 +18,7 @@ ghost use Rattle.aes.specs.Cipher.{cipher};
 ghost use Rattle.ghash.specs.Multiples.{multiples_in, product_by};
 ghost use Rattle.gcm.specs.Gcm.{max_plain, max_data, tag_len, aes_under, subkey, pre_counter, hash_of, cipher_text, tag_of, sealed};
 ghost use Rattle.gcm.specs.Key.{prepared};
-ghost use Rattle.gcm.specs.Answers.{sealing, sealed_in, opening, opened_in};
+ghost use Rattle.gcm.specs.Answers.{beyond, sealing, sealed_in, opening, opened_in};
 
 use octets::Block;
 
@@ -29,22 +29,25 @@ pub struct Key {
     pub multiples: [u64; 1024],
 }
 
-// What sealing answers.
+// A prepared key, lent: its two parts stay where their owner keeps them, and are not copied for a call.
 #[derive(Clone, Copy)]
-pub enum Sealing {
-    // The text and behind it the tag stand in the buffer.
-    Done,
+pub struct KeyRef<'a> {
+    pub schedule: &'a [u32; 44],
+    pub multiples: &'a [u64; 1024],
+}
+
+// Why a text is not sealed.
+#[derive(Clone, Copy, Debug, PartialEq, Eq)]
+pub enum SealError {
     // The buffer needs so many bytes.
     Short(usize),
     // The text or the data is longer than the standard allows.
     Long,
 }
 
-// What opening answers.
-#[derive(Clone, Copy)]
-pub enum Opening {
-    // The text has so many bytes.
-    Text(usize),
+// Why a text is not opened.
+#[derive(Clone, Copy, Debug, PartialEq, Eq)]
+pub enum OpenError {
     // The tag does not fit, or there is none.
     Fail,
     // The buffer needs so many bytes.
@@ -67,8 +70,8 @@ fn pre_counter(iv: [u8; 12]) -> Block
     ensures { num result ≡ pre_counter iv }
 {
     Block {
-        hi: octets::word_of(iv[0], iv[1], iv[2], iv[3], iv[4], iv[5], iv[6], iv[7]),
-        lo: octets::word_of(iv[8], iv[9], iv[10], iv[11], 0, 0, 0, 1),
+        hi: u64::from_be_bytes([iv[0], iv[1], iv[2], iv[3], iv[4], iv[5], iv[6], iv[7]]),
+        lo: u64::from_be_bytes([iv[8], iv[9], iv[10], iv[11], 0, 0, 0, 1]),
     }
 }
 
@@ -84,138 +87,193 @@ pub fn prepare_in(key: [u8; 16], m: &mut [u64]) -> [u32; 44]
     w
 }
 
-// Prepares a key.
+// Prepares a key, in the place where it is handed back: its 8 KB are not copied.
 pub fn prepare(key: [u8; 16]) -> Key
     ensures { result ≡ prepared key }
 {
-    let mut m = [0u64; MULTIPLES_LEN];
-    let w = prepare_in(key, &mut m);
-    Key {
-        schedule: w,
-        multiples: m,
-    }
-}
-
-// The hash of the data and the ciphertext.
-fn hash_of(m: &[u64; 1024], aad: &[u8], c: &[u8]) -> Block
-    requires { (length aad.now ≤ max_data) × (length c.now ≤ max_plain) }
-    ensures { num result ≡ hash_of (product_by m.now) aad.now c.now }
-{
-    let y = ghash::hash(m, Block { hi: 0, lo: 0 }, aad);
-    let z = ghash::hash(m, y, c);
-    let lengths = Block {
-        hi: aad.len() as u64 * 8,
-        lo: c.len() as u64 * 8,
+    let mut k = Key {
+        schedule: [0u32; 44],
+        multiples: [0u64; MULTIPLES_LEN],
     };
-    ghash::product(m, octets::add(z, lengths))
+    k.schedule = prepare_in(key, &mut k.multiples);
+    k
 }
 
-// The tag of the data and the ciphertext.
-fn tag_of(w: &[u32; 44], m: &[u64; 1024], iv: [u8; 12], aad: &[u8], c: &[u8]) -> Block
-    requires { (length aad.now ≤ max_data) × (length c.now ≤ max_plain) }
-    ensures { bytes_of 16 (num result) ≡ tag_of (cipher w.now) (product_by m.now) iv aad.now c.now }
+// Whether a text of n bytes or data of d bytes is longer than the standard allows.
+fn beyond(n: usize, d: usize) -> bool
+    ensures { result ≡ beyond n d }
 {
-    let s = hash_of(m, aad, c);
-    let mask = aes::encrypt(w, pre_counter(iv));
-    octets::add(s, mask)
+    MAX_PLAIN < n || MAX_DATA < d
 }
 
-// Encrypts the first n bytes of buf in their place and puts the tag behind them.
-fn put_sealed(w: &[u32; 44], m: &[u64; 1024], iv: [u8; 12], aad: &[u8], buf: &mut [u8], n: usize)
-    requires { (length aad.now ≤ max_data) × (n ≤ max_plain) × (n + tag_len ≤ length buf.old) }
-    ensures { buf.new ≡ put_over (sealed (cipher w.now) (product_by m.now) iv aad.now (take n buf.old)) buf.old }
-{
-    aes::counter(w, aes::next(pre_counter(iv)), &mut buf[..n]);
-    let tag = tag_of(w, m, iv, aad, &buf[..n]);
-    octets::put_block(&mut buf[n..], tag);
-}
-
-// Whether the bytes of s from n on are the tag of those before them.
-fn fits(w: &[u32; 44], m: &[u64; 1024], iv: [u8; 12], aad: &[u8], s: &[u8], n: usize) -> bool
-    requires { (length aad.now ≤ max_data) × (n ≤ max_plain) × (n ≤ length s.now) }
-    ensures { result ≡ same_bytes (drop n s.now) (tag_of (cipher w.now) (product_by m.now) iv aad.now (take n s.now)) }
-{
-    let tag = octets::block_bytes(tag_of(w, m, iv, aad, &s[..n]));
-    octets::same(&s[n..], &tag)
-}
-
-// Decrypts the first n bytes of s into the start of out.
-fn put_text(w: &[u32; 44], iv: [u8; 12], s: &[u8], n: usize, out: &mut [u8])
-    requires { (n ≤ length s.now) × (n ≤ length out.old) }
-    ensures { out.new ≡ put_over (cipher_text (cipher w.now) iv (take n s.now)) out.old }
-{
-    octets::copy(&s[..n], out);
-    aes::counter(w, aes::next(pre_counter(iv)), &mut out[..n]);
-}
-
-// Encrypts the first n bytes of buf in their place and puts the tag behind them; every byte behind the tag stays. It
-// refuses a text or data beyond the standard, and a buffer with no room for the tag; buf is then as it came.
-pub fn seal_with<'a>(
-    w: &'a [u32; 44],
-    m: &'a [u64; 1024],
+// What is sealed or opened: a text of n bytes under a key, an IV and additional data, within the standard's limits.
+#[derive(Clone, Copy)]
+struct Message<'a> {
+    key: KeyRef<'a>,
     iv: [u8; 12],
-    aad: &[u8],
-    buf: &mut [u8],
+    aad: &'a [u8],
     n: usize,
-) -> Sealing
-    ensures answer { result ≡ sealing (length aad.now) n (length buf.old) }
-    ensures buffer { buf.new ≡ sealed_in (cipher w.now) (product_by m.now) iv aad.now n buf.old }
-{
-    if (MAX_PLAIN < n) | (MAX_DATA < aad.len()) {
-        return Sealing::Long;
-    }
-    let e = n + TAG_LEN;
-    if buf.len() < e {
-        return Sealing::Short(e);
-    }
-    put_sealed(w, m, iv, aad, buf, n);
-    Sealing::Done
+    ghost data_within: { length aad.now ≤ max_data },
+    ghost text_within: { n ≤ max_plain },
 }
 
-// Opens a ciphertext with its tag behind it into the start of out. It refuses fewer bytes than a tag, a text or data
-// beyond the standard, an output with no room for the text, and a tag that does not fit; out is then as it came.
-pub fn open_with<'a>(
-    w: &'a [u32; 44],
-    m: &'a [u64; 1024],
-    iv: [u8; 12],
-    aad: &[u8],
-    s: &[u8],
-    out: &mut [u8],
-) -> Opening
-    ensures answer { result ≡ opening (cipher w.now) (product_by m.now) iv aad.now s.now (length out.old) }
-    ensures buffer { out.new ≡ opened_in (cipher w.now) (product_by m.now) iv aad.now s.now out.old }
-{
-    if s.len() < TAG_LEN {
-        return Opening::Fail;
+impl<'a> Message<'a> {
+    // The hash of the data and the ciphertext.
+    fn hash(self, c: &[u8]) -> Block
+        requires { length c.now ≡ self.n }
+        ensures { num result ≡ hash_of (product_by self.entry.key.multiples.now) self.entry.aad.now c.now }
+    {
+        let m = self.key.multiples;
+        let y = ghash::hash(m, Block { hi: 0, lo: 0 }, self.aad);
+        let z = ghash::hash(m, y, c);
+        let lengths = Block {
+            hi: self.aad.len() as u64 * 8,
+            lo: c.len() as u64 * 8,
+        };
+        ghash::product(m, octets::add(z, lengths))
     }
-    let n = s.len() - TAG_LEN;
-    if (MAX_PLAIN < n) | (MAX_DATA < aad.len()) {
-        return Opening::Long;
+
+    // The tag of the data and the ciphertext.
+    fn tag(self, c: &[u8]) -> Block
+        requires { length c.now ≡ self.n }
+        ensures { bytes_of 16 (num result) ≡ tag_of (cipher self.entry.key.schedule.now) (product_by self.entry.key.multiples.now) self.entry.iv self.entry.aad.now c.now }
+    {
+        let mask = aes::encrypt(self.key.schedule, pre_counter(self.iv));
+        octets::add(self.hash(c), mask)
     }
-    if out.len() < n {
-        return Opening::Short(n);
+
+    // Encrypts the first n bytes of buf in their place and puts the tag behind them.
+    fn put_sealed(self, buf: &mut [u8])
+        requires { self.n + tag_len ≤ length buf.old }
+        ensures { buf.new ≡ put_over (sealed (cipher self.entry.key.schedule.now) (product_by self.entry.key.multiples.now) self.entry.iv self.entry.aad.now (take self.entry.n buf.old)) buf.old }
+    {
+        let n = self.n;
+        aes::counter(
+            self.key.schedule,
+            aes::next(pre_counter(self.iv)),
+            &mut buf[..n],
+        );
+        let tag = self.tag(&buf[..n]);
+        octets::put_block(&mut buf[n..], tag);
     }
-    if fits(w, m, iv, aad, s, n) {
-        put_text(w, iv, s, n, out);
-        return Opening::Text(n);
+
+    // Whether the bytes of s from n on are the tag of those before them.
+    fn fits(self, s: &[u8]) -> bool
+        requires { self.n ≤ length s.now }
+        ensures { result ≡ same_bytes (drop self.entry.n s.now) (tag_of (cipher self.entry.key.schedule.now) (product_by self.entry.key.multiples.now) self.entry.iv self.entry.aad.now (take self.entry.n s.now)) }
+    {
+        let n = self.n;
+        let tag = octets::block_bytes(self.tag(&s[..n]));
+        octets::same(&s[n..], &tag)
     }
-    Opening::Fail
+
+    // Decrypts the first n bytes of s into the start of out.
+    fn put_text(self, s: &[u8], out: &mut [u8])
+        requires { (self.n ≤ length s.now) × (self.n ≤ length out.old) }
+        ensures { out.new ≡ put_over (cipher_text (cipher self.entry.key.schedule.now) self.entry.iv (take self.entry.n s.now)) out.old }
+    {
+        let n = self.n;
+        out[..n].copy_from_slice(&s[..n]);
+        aes::counter(
+            self.key.schedule,
+            aes::next(pre_counter(self.iv)),
+            &mut out[..n],
+        );
+    }
+}
+
+impl<'a> KeyRef<'a> {
+    // Encrypts the first n bytes of buf in their place and puts the tag behind them; every byte behind the tag stays. It
+    // refuses a text or data beyond the standard, and a buffer with no room for the tag; buf is then as it came.
+    pub fn seal(self, iv: [u8; 12], aad: &[u8], buf: &mut [u8], n: usize) -> Result<(), SealError>
+        ensures answer { result ≡ sealing (length aad.now) n (length buf.old) }
+        ensures buffer { buf.new ≡ sealed_in (cipher self.entry.schedule.now) (product_by self.entry.multiples.now) iv aad.now n buf.old }
+    {
+        if beyond(n, aad.len()) {
+            return Err(SealError::Long);
+        }
+        let e = n + TAG_LEN;
+        if buf.len() < e {
+            return Err(SealError::Short(e));
+        }
+        let message = Message {
+            key: self,
+            iv,
+            aad,
+            n,
+        };
+        message.put_sealed(buf);
+        Ok(())
+    }
+
+    // Opens a ciphertext with its tag behind it into the start of out, and gives the bytes of the text. It refuses fewer
+    // bytes than a tag, a text or data beyond the standard, an output with no room for the text, and a tag that does not
+    // fit; out is then as it came.
+    pub fn open(
+        self,
+        iv: [u8; 12],
+        aad: &[u8],
+        s: &[u8],
+        out: &mut [u8],
+    ) -> Result<usize, OpenError>
+        ensures answer { result ≡ opening (cipher self.entry.schedule.now) (product_by self.entry.multiples.now) iv aad.now s.now (length out.old) }
+        ensures buffer { out.new ≡ opened_in (cipher self.entry.schedule.now) (product_by self.entry.multiples.now) iv aad.now s.now out.old }
+    {
+        if s.len() < TAG_LEN {
+            return Err(OpenError::Fail);
+        }
+        let n = s.len() - TAG_LEN;
+        if beyond(n, aad.len()) {
+            return Err(OpenError::Long);
+        }
+        if out.len() < n {
+            return Err(OpenError::Short(n));
+        }
+        let message = Message {
+            key: self,
+            iv,
+            aad,
+            n,
+        };
+        if !message.fits(s) {
+            return Err(OpenError::Fail);
+        }
+        message.put_text(s, out);
+        Ok(n)
+    }
 }
 
 impl Key {
-    // `seal_with` on the key's two parts.
-    pub fn seal(self, iv: [u8; 12], aad: &[u8], buf: &mut [u8], n: usize) -> Sealing
+    // The key, lent.
+    pub fn lend(&self) -> KeyRef<'_>
+        ensures schedule { result.schedule.now ≡ self.now.schedule }
+        ensures multiples { result.multiples.now ≡ self.now.multiples }
+    {
+        KeyRef {
+            schedule: &self.schedule,
+            multiples: &self.multiples,
+        }
+    }
+
+    // `KeyRef::seal` by the key.
+    pub fn seal(self, iv: [u8; 12], aad: &[u8], buf: &mut [u8], n: usize) -> Result<(), SealError>
         ensures answer { result ≡ sealing (length aad.now) n (length buf.old) }
         ensures buffer { buf.new ≡ sealed_in (cipher self.schedule) (product_by self.multiples) iv aad.now n buf.old }
     {
-        seal_with(&self.schedule, &self.multiples, iv, aad, buf, n)
+        self.lend().seal(iv, aad, buf, n)
     }
 
-    // `open_with` on the key's two parts.
-    pub fn open(self, iv: [u8; 12], aad: &[u8], s: &[u8], out: &mut [u8]) -> Opening
+    // `KeyRef::open` by the key.
+    pub fn open(
+        self,
+        iv: [u8; 12],
+        aad: &[u8],
+        s: &[u8],
+        out: &mut [u8],
+    ) -> Result<usize, OpenError>
         ensures answer { result ≡ opening (cipher self.schedule) (product_by self.multiples) iv aad.now s.now (length out.old) }
         ensures buffer { out.new ≡ opened_in (cipher self.schedule) (product_by self.multiples) iv aad.now s.now out.old }
     {
-        open_with(&self.schedule, &self.multiples, iv, aad, s, out)
+        self.lend().open(iv, aad, s, out)
     }
 }

@@ -1,11 +1,12 @@
 -- GHASH over the blocks of a string.
 -- Assumes nothing.
-use mathlib.Core.Path.{◌≡◌, refl, ap, ◌∙◌}
+use mathlib.Core.Path.{◌≡◌, refl, sym, ap, ap₂, ◌∙◌}
 use mathlib.Core.List.{List, [], ◌∷◌, ◌++◌}
-use Prim.Native.Nat.{ℕ, suc, ◌+◌, ◌-◌, ◌/◌, ◌<◌, ◌≤◌}
+use Prim.Native.Nat.{ℕ, zero, suc, min, ◌+◌, ◌-◌, ◌/◌, ◌<◌}
 use native.Mathlib.Omega.{arith}
-use lib.ListN.{length, drop, length-drop}
-use lib.Seq.{drop-drop}
+use lib.ListN.{length, take, drop, length-drop}
+use Rattle.std.proofs.Math.Seq.{take-append_seam, drop-append_seam}
+use Rattle.std.proofs.lemmas.List.{take_min, drop_min}
 use lib.Bits.{bit_xor}
 use Rattle.octets.specs.Bytes.{number, padded}
 use Rattle.ghash.specs.Ghash.{blocks_in, blocks_of, ghash}
@@ -36,15 +37,19 @@ pub blocks_none : (l : List ℕ) → length l ≡ 0 → blocks_of l ≡ []
 unfolding blocks_of blocks_in block_count
 blocks_none l e = rw e
 
--- one block more of a hash
-pub hash_more : (f : ℕ → ℕ) (y x y' : ℕ) (s : List ℕ) (at : ℕ) → at < length s → x ≡ number (padded 16 (drop at s)) → y' ≡ f (bit_xor y x)
-    → ghash f y' (blocks_of (drop (at + 16) s)) ≡ ghash f y (blocks_of (drop at s))
-unfolding ghash
-hash_more f y x y' s at more ex ey =
-    let m : 0 < length (drop at s) = simp length-drop (omega arith) in
-    rw (blocks_more (drop at s) m, drop-drop 16 at s, ey, ex)
+-- padding looks at no more than the first n bytes
+padded_front : (n : ℕ) (l : List ℕ) → padded n (take n l) ≡ padded n l
+unfolding padded
+padded_front zero l = refl
+padded_front (suc n) [] = refl
+padded_front (suc n) (x ∷ l) = ap (λ (t : List ℕ). x ∷ t) (padded_front n l)
 
--- none left
-pub hash_done : (f : ℕ → ℕ) (y : ℕ) (s : List ℕ) (at : ℕ) → length s ≤ at → ghash f y (blocks_of (drop at s)) ≡ y
+-- one block more of a hash: b is the next 16 bytes of what is left, or all of it where fewer are
+pub hash_more : (f : ℕ → ℕ) (y x y' : ℕ) (s b rest : List ℕ) → s ≡ b ++ rest → length b ≡ min 16 (length s) → 0 < length s → x ≡ number (padded 16 b) → y' ≡ f (bit_xor y x)
+    → ghash f y' (blocks_of rest) ≡ ghash f y (blocks_of s)
 unfolding ghash
-hash_done f y s at h = rw (blocks_none (drop at s) (simp length-drop (omega arith)))
+hash_more f y x y' s b rest e l more ex ey =
+    let eb : b ≡ take 16 s = sym (take-append_seam b rest) ∙ ap₂ (λ (n : ℕ) (t : List ℕ). take n t) l (sym e) ∙ take_min 16 s in
+    let er : rest ≡ drop 16 s = sym (drop-append_seam b rest) ∙ ap₂ (λ (n : ℕ) (t : List ℕ). drop n t) l (sym e) ∙ drop_min 16 s in
+    let first : x ≡ number (padded 16 s) = ex ∙ ap (λ (t : List ℕ). number (padded 16 t)) eb ∙ ap number (padded_front 16 s) in
+    rw (blocks_more s more, er, ey, first)

@@ -9,7 +9,7 @@ use native.Mathlib.Numerals.{add-one}
 use native.Mathlib.Omega.{arith}
 use lib.Dec.{lit<, lit≤}
 use lib.ListN.{length, get_or, take, length-append, get_or-append}
-use lib.Seq.{get_or-append-add, paste, take-paste, take_all}
+use lib.Seq.{get_or-append-add}
 use lib.Pow.{split, high, low, shr-shr}
 use lib.Bits.{bit_xor}
 use Rattle.octets.specs.Lists.{at}
@@ -44,18 +44,13 @@ multiple_is h j n hj hn =
     ap (λ (k : ℕ). products k (n * 2 ^ (124 - 4 * j)) 0 h) e ∙ product_middle (4 * j) 4 (124 - 4 * j) n h hn
 
 -- a row more
-pub row_more : (h j v : ℕ) (m r m' : List ℕ) → j < 32 → length m ≡ 1024 → v ≡ shifted_by (4 * j) h → r ≡ words_to 16 (λ (n : ℕ). products 4 n 0 v)
-    → take (32 * j) m ≡ rows_to j h → m' ≡ paste m (32 * j) r 32 → take (32 * (j + 1)) m' ≡ rows_to (j + 1) h
+pub row_more : (h j v : ℕ) (m r m' : List ℕ) → j < 32 → v ≡ shifted_by (4 * j) h → r ≡ words_to 16 (λ (n : ℕ). products 4 n 0 v)
+    → take (32 * j) m ≡ rows_to j h → take (32 * (j + 1)) m' ≡ take (32 * j) m ++ r → take (32 * (j + 1)) m' ≡ rows_to (j + 1) h
 unfolding rows_to
-row_more h j v m r m' hj long ev er em em' =
-    let len : length r ≡ 32 = ap length er ∙ length_words 16 (λ (n : ℕ). products 4 n 0 v) in
-    let size : 32 * suc j ≡ 32 * j + 32 = omega arith in
+row_more h j v m r m' hj ev er em em' =
     let entry : (i : ℕ) → i < 16 → products 4 i 0 v ≡ multiple h j i = λ i hi. ap (products 4 i 0) ev ∙ sym (multiple_is h j i hj hi) in
     let row : r ≡ words_to 16 (multiple h j) = er ∙ words_same 16 (λ (n : ℕ). products 4 n 0 v) (multiple h j) entry in
-    rw (add-one j)
-    (ap₂ (λ (n : ℕ) (l : List ℕ). take n l) size em'
-    ∙ take-paste m (32 * j) r 32 (omega arith) (omega arith)
-    ∙ ap₂ (λ (a b : List ℕ). a ++ b) em (take_all 32 r (omega arith) ∙ row))
+    em' ∙ ap₂ (λ (a b : List ℕ). a ++ b) em row ∙ sym (ap (λ (n : ℕ). rows_to n h) (add-one j))
 
 -- V for the next row
 pub next_row : (h j v v' : ℕ) → v ≡ shifted_by (4 * j) h → v' ≡ shifted (shifted (shifted (shifted v))) → v' ≡ shifted_by (4 * (j + 1)) h

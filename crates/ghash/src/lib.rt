@@ -36,66 +36,57 @@ fn shift4(v: Block) -> Block
     shift(shift(shift(shift(v))))
 }
 
-// What each four bits come to where V is v, as two words each.
+// What each four bits come to where V is v, as two words each: a table is words, since C keeps it.
 fn row(v: Block) -> [u64; 32]
     ensures { result ≡ words_to 16 (λ (n : ℕ). products 4 n 0 (num v)) }
 {
     let w = shift(v);
     let x = shift(w);
     let y = shift(x);
-    let vh = v.hi;
-    let vl = v.lo;
-    let wh = w.hi;
-    let wl = w.lo;
-    let xh = x.hi;
-    let xl = x.lo;
-    let yh = y.hi;
-    let yl = y.lo;
     [
         0,
         0,
-        yh,
-        yl,
-        xh,
-        xl,
-        xh ^ yh,
-        xl ^ yl,
-        wh,
-        wl,
-        wh ^ yh,
-        wl ^ yl,
-        wh ^ xh,
-        wl ^ xl,
-        wh ^ xh ^ yh,
-        wl ^ xl ^ yl,
-        vh,
-        vl,
-        vh ^ yh,
-        vl ^ yl,
-        vh ^ xh,
-        vl ^ xl,
-        vh ^ xh ^ yh,
-        vl ^ xl ^ yl,
-        vh ^ wh,
-        vl ^ wl,
-        vh ^ wh ^ yh,
-        vl ^ wl ^ yl,
-        vh ^ wh ^ xh,
-        vl ^ wl ^ xl,
-        vh ^ wh ^ xh ^ yh,
-        vl ^ wl ^ xl ^ yl,
+        y.hi,
+        y.lo,
+        x.hi,
+        x.lo,
+        x.hi ^ y.hi,
+        x.lo ^ y.lo,
+        w.hi,
+        w.lo,
+        w.hi ^ y.hi,
+        w.lo ^ y.lo,
+        w.hi ^ x.hi,
+        w.lo ^ x.lo,
+        w.hi ^ x.hi ^ y.hi,
+        w.lo ^ x.lo ^ y.lo,
+        v.hi,
+        v.lo,
+        v.hi ^ y.hi,
+        v.lo ^ y.lo,
+        v.hi ^ x.hi,
+        v.lo ^ x.lo,
+        v.hi ^ x.hi ^ y.hi,
+        v.lo ^ x.lo ^ y.lo,
+        v.hi ^ w.hi,
+        v.lo ^ w.lo,
+        v.hi ^ w.hi ^ y.hi,
+        v.lo ^ w.lo ^ y.lo,
+        v.hi ^ w.hi ^ x.hi,
+        v.lo ^ w.lo ^ x.lo,
+        v.hi ^ w.hi ^ x.hi ^ y.hi,
+        v.lo ^ w.lo ^ x.lo ^ y.lo,
     ]
 }
 
 // Writes a row into the table, from word at on.
+// Word by word: by `copy_from_slice` preparing a key takes 1,150 ns in place of 630.
 fn put_row(m: &mut [u64], at: usize, r: [u64; 32])
     requires { at + 32 ≤ length m.old }
     ensures { m.new ≡ paste m.old at r 32 }
 {
-    let mut i: usize = 0;
-    while i < 32 {
+    for i in 0..32 {
         m[at + i] = r[i];
-        i += 1;
     }
 }
 
@@ -107,12 +98,10 @@ pub fn put_multiples(m: &mut [u64], h: Block)
         return;
     }
     let mut v = h;
-    let mut j: usize = 0;
-    while j < 32 {
-        let r = row(v);
-        put_row(m, 32 * j, r);
+    // By the row's number: of what `chunks_exact_mut` lends, a proof knows no element once it is given back.
+    for j in 0..32 {
+        put_row(m, 32 * j, row(v));
         v = shift4(v);
-        j += 1;
     }
 }
 
@@ -122,14 +111,14 @@ fn half(m: &[u64; 1024], b: usize, x: u64, z0: Block) -> Block
     ensures { num result ≡ sum_to m.now b x (num z0) 16 }
 {
     let mut z = z0;
-    let mut k: u32 = 0;
-    while k < 16 {
+    for k in 0..16 {
         let n = ((x >> (60 - 4 * k)) % 16) as usize;
-        let at = 32 * (b + k as usize) + 2 * n;
-        let hi = m[at];
-        let lo = m[at + 1];
-        z = add(z, Block { hi, lo });
-        k += 1;
+        let at = 32 * (b + k) + 2 * n;
+        let entry = Block {
+            hi: m[at],
+            lo: m[at + 1],
+        };
+        z = add(z, entry);
     }
     z
 }
@@ -147,10 +136,8 @@ pub fn hash(m: &[u64; 1024], y0: Block, s: &[u8]) -> Block
     ensures { num result ≡ ghash (product_by m.now) (num y0) (blocks_of s.now) }
 {
     let mut y = y0;
-    let mut at = 0;
-    while at < s.len() {
-        y = product(m, add(y, first_block(&s[at..])));
-        at += 16;
+    for block in s.chunks(16) {
+        y = product(m, add(y, first_block(block)));
     }
     y
 }

@@ -74,7 +74,7 @@ module _ (s e : Table) (m : ℕ) where
       (λ c. rw (h.in_start, h.in_end, ne_eqb (entry_for s m).code heat_code c.0, eq-eqb (entry_for e m).code heat_code c.1))
       h.changed
 
-any_of : (p : ℕ → Bool) (n i : ℕ) → i < n → p i ≡ true → any_below p n ≡ true
+pub any_of : (p : ℕ → Bool) (n i : ℕ) → i < n → p i ≡ true → any_below p n ≡ true
 unfolding any_below
 any_of p zero i h e = absurd (not-suc-le-zero h)
 any_of p (suc n) i h e =

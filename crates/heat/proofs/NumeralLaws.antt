@@ -1,14 +1,13 @@
 -- Numbers in decimal: a digit more, how long they are, and what they are read back as; and how the code writes them from the last digit on.
 -- Assumes nothing.
-use Prim.Native.Nat.{ℕ, zero, suc, ◌+◌, ◌-◌, ◌/◌, ◌%◌, ◌^◌, ◌<◌, ◌≤◌}
+use Prim.Native.Nat.{ℕ, zero, suc, ◌+◌, ◌/◌, ◌%◌, ◌^◌, ◌<◌, ◌≤◌}
 use mathlib.Core.Path.{◌≡◌, refl, sym, ap, ◌∙◌}
 use mathlib.Core.Bool.{Bool, true, false}
 use mathlib.Core.List.{List, [], ◌∷◌, ◌++◌, append_assoc}
 use native.Mathlib.Nat.{not-suc-le-zero}
 use native.Mathlib.Omega.{arith}
 use lib.Dec.{ltb}
-use lib.ListN.{length, drop, set, length-append, length-set}
-use lib.Seq.{drop-cons, drop-set-lt, get_or-set_same}
+use lib.ListN.{length, length-append}
 use borrow.Author.Tests.{ltb-true, ltb-false, lt-ltb, le-ltb}
 use Rattle.heat.specs.Numerals.{zero_byte, numeral_within, numeral}
 
@@ -56,21 +55,11 @@ length_numeral (suc k) n h = go (ltb n 10) refl (length_numeral k (n / 10) (omeg
     go true e l = let a = length_digit n (ltb-true n 10 e) in omega arith
     go false e l = let a = length_more n (ltb-false n 10 e) in omega arith
 
--- ---- a byte before others, at the end of an array
-
-pub laid_before : (s : List ℕ) (i b : ℕ) → i < length s → drop i (set s i b) ≡ b ∷ drop (suc i) s
-laid_before s i b h = drop-cons (set s i b) i 0 (rw length-set h) ∙ rw (get_or-set_same s i b 0 h, drop-set-lt (suc i) s i b (omega arith))
-
-pub byte_laid : (s : List ℕ) (from b : ℕ) → 1 ≤ from → from ≤ length s → drop (from - 1) (set s (from - 1) b) ≡ b ∷ drop from s
-byte_laid s from b h k = laid_before s (from - 1) b (omega arith) ∙ ap (λ (i : ℕ). b ∷ drop i s) (let e : suc (from - 1) ≡ from = omega arith in e)
+-- ---- a digit before other bytes
 
 -- the last digit of a number that has others, and the only one
-pub digit_turn : (s : List ℕ) (from left : ℕ) → 10 ≤ left → 1 ≤ from → from ≤ length s
-    → numeral (left / 10) ++ drop (from - 1) (set s (from - 1) (zero_byte + left % 10)) ≡ numeral left ++ drop from s
-digit_turn s from left h l k =
-    ap (λ (t : List ℕ). numeral (left / 10) ++ t) (byte_laid s from (zero_byte + left % 10) l k)
-    ∙ sym (append_assoc (numeral (left / 10)) ((zero_byte + left % 10) ∷ []) (drop from s))
-    ∙ ap (λ (t : List ℕ). t ++ drop from s) (sym (numeral_more left h))
+pub digit_turn : (left : ℕ) (s : List ℕ) → 10 ≤ left → numeral (left / 10) ++ ((zero_byte + left % 10) ∷ s) ≡ numeral left ++ s
+digit_turn left s h = sym (append_assoc (numeral (left / 10)) ((zero_byte + left % 10) ∷ []) s) ∙ ap (λ (t : List ℕ). t ++ s) (sym (numeral_more left h))
 
-pub digit_last : (s : List ℕ) (from left : ℕ) → left < 10 → 1 ≤ from → from ≤ length s → drop (from - 1) (set s (from - 1) (zero_byte + left)) ≡ numeral left ++ drop from s
-digit_last s from left h l k = byte_laid s from (zero_byte + left) l k ∙ ap (λ (t : List ℕ). t ++ drop from s) (sym (numeral_digit left h))
+pub digit_last : (left : ℕ) (s : List ℕ) → left < 10 → (zero_byte + left) ∷ s ≡ numeral left ++ s
+digit_last left s h = ap (λ (t : List ℕ). t ++ s) (sym (numeral_digit left h))

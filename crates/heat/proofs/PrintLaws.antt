@@ -13,7 +13,11 @@ use Rattle.protocol.specs.Said.{Said, refused, taken, Told, turn_down}
 use Rattle.heat.specs.Uses.{gain}
 use Rattle.heat.specs.Shares.{total}
 use Rattle.heat.specs.Text.{split_text, text_max}
-use Rattle.heat.specs.Answer.{two_tables, start_table, end_table, any_changed, split_of, heat_split, refused_line, shown_by, printed}
+use Rattle.heat.specs.Numerals.{numeral_within, numeral}
+use Rattle.heat.specs.declared.SplitError.{SplitError}
+use Rattle.heat.specs.declared.SplitError.TheVariants as E
+use Rattle.std.specs.Prelude.{Err}
+use Rattle.heat.specs.Answer.{said_by, two_tables, start_table, end_table, any_changed, split_of, heat_split, refused_line, shown_by, printed}
 
 -- ---- what is taken has the length that is said
 
@@ -40,6 +44,22 @@ sized b room =
     let used : Told = turn_down (eqb (total (gain s e)) 0) 19 [] fitted in
     behind (not (two_tables b)) 4 [] (split_of s e room) (behind (any_changed s e) 18 [] used (behind (eqb (total (gain s e)) 0) 19 [] fitted (behind (ltb room n) 3 (n ∷ []) written refl)))
 
+-- ---- the lines of the refusals
+
+nothing_put : (e : SplitError) (put : List ℕ) → shown_by (said_by (Err e)) put ≡ shown_by (said_by (Err e)) []
+unfolding said_by shown_by
+nothing_put (E.Short n) put = refl
+nothing_put E.NoTables put = refl
+nothing_put E.CodeChanged put = refl
+nothing_put E.NothingUsed put = refl
+
+pub line_fits : (e : SplitError) → length (shown_by (said_by (Err e)) []) ≤ text_max
+unfolding said_by shown_by refused_line numeral numeral_within
+line_fits (E.Short n) = omega arith
+line_fits E.NoTables = omega arith
+line_fits E.CodeChanged = omega arith
+line_fits E.NothingUsed = omega arith
+
 -- ---- what is printed
 
 module _ (b : List ℕ) where
@@ -49,9 +69,9 @@ module _ (b : List ℕ) where
       let q = sym et ∙ e in
       (sym (ap (λ (x : Said). shown_by x (heat_split b text_max).put) q), subst (λ (x : Said). Sized x (heat_split b text_max).put) (sym q) (sized b text_max))
 
-  pub printed_refused : {x : Said} {n : ℕ} {vs : List ℕ} → x ≡ refused n vs → x ≡ (heat_split b text_max).said → printed b ≡ refused_line n
-  unfolding printed shown_by
-  printed_refused er e = sym (ap (λ (x : Said). shown_by x (heat_split b text_max).put) (sym er ∙ e))
+  pub printed_refused : (e : SplitError) → said_by (Err e) ≡ (heat_split b text_max).said → printed b ≡ shown_by (said_by (Err e)) []
+  unfolding printed
+  printed_refused e is = sym (ap (λ (x : Said). shown_by x (heat_split b text_max).put) is) ∙ nothing_put e (heat_split b text_max).put
 
   -- an array that has s at its start, and its length
   pub as_printed : (d : List ℕ) {s bytes : List ℕ} {len : ℕ} → printed b ≡ s → bytes ≡ put_over s d → len ≡ length s → (bytes ≡ put_over (printed b) d) × (len ≡ length (printed b))

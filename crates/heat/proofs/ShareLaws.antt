@@ -2,18 +2,18 @@
 -- there is a remainder. No use has no share, a greater use has no smaller one, and of equal uses the lower meter's is the other's or one more.
 -- Assumes nothing.
 use Prim.Native.Nat.{ℕ, zero, suc, ◌+◌, ◌-◌, ◌*◌, ◌/◌, ◌%◌, ◌≤◌, ◌<◌}
-use mathlib.Core.Path.{◌≡◌, refl, ap, ap₂, ◌∙◌}
+use mathlib.Core.Path.{◌≡◌, refl, sym, ap, ap₂, ◌∙◌}
 use mathlib.Core.Bool.{Bool, true, false, cond, ◌&&◌}
 use mathlib.Core.Logic.{◌⊎◌, inl, inr, ⊎_elim}
 use native.Mathlib.Nat.{eq-or-lt_of_le, le-div_iff_mul-le, mod-lt, zero-mod, zero-div, div-zero, div-add-mod', le_of_mul-le-mul_right}
 use native.Mathlib.Omega.{arith}
 use lib.Dec.{ltb, eqb}
-use borrow.Author.Tests.{ltb-true, ltb-false, lt-ltb}
-use Rattle.octets.proofs.BoolLaws.{or_left}
+use borrow.Author.Tests.{ltb-true, ltb-false, lt-ltb, le-ltb, ne_eqb}
+use Rattle.octets.proofs.BoolLaws.{or_left, and_right}
 use Rattle.transaction.specs.Transaction.{meters}
 use Rattle.heat.specs.Sums.{sum_below, count_below}
 use Rattle.heat.specs.Shares.{house, total, floor, remainder, missing, before, rank, share}
-use Rattle.heat.proofs.SumLaws.{sum_same, count_same, sum_add, sum_times, sum_le, sum_part, bit_le}
+use Rattle.heat.proofs.SumLaws.{sum_same, count_same, count_le, sum_add, sum_times, sum_le, sum_part, bit_le}
 use Rattle.heat.specs.Claim.{Sooner, lower, larger}
 use Rattle.heat.proofs.RankLaws.{sooner, sooner_is, before_other, ahead_le, few_are}
 
@@ -172,6 +172,11 @@ floor_none : (g : ℕ → ℕ) (m : ℕ) → g m ≡ 0 → floor g m ≡ 0
 unfolding floor
 floor_none g m e = rw e (zero-div (total g))
 
+-- what has no remainder comes before none that has one
+not_before : (r : ℕ → ℕ) (k m : ℕ) {n : ℕ} → r k ≡ 0 → r m ≡ suc n → before r k m ≡ false
+unfolding before
+not_before r k m z e = rw (le-ltb (r m) (r k) (omega arith), ne_eqb (r m) (r k) (λ q. omega arith))
+
 remainder_none : (g : ℕ → ℕ) (m : ℕ) → g m ≡ 0 → remainder g m ≡ 0
 unfolding remainder
 remainder_none g m e = rw e (zero-mod (total g))
@@ -187,6 +192,22 @@ module _ (l : ℕ → Bool) (g : ℕ → ℕ) (some : total g ≡ 0 → ⊥) (no
           let r = remainder g in
           omega (arith, ltb-false (r m) (r k) (or_left (ltb (r m) (r k)) (eqb (r m) (r k) && ltb k m) q))
       at k false f q = remainder_none g k (none k f)
+
+  -- whether all are ranked or those that l lists: a unit goes to the same
+  pub rank_of_all : (m : ℕ) → ltb (rank (λ k. true) (remainder g) m) (missing g) ≡ ltb (rank l (remainder g) m) (missing g)
+  unfolding rank
+  rank_of_all m = go (remainder g m) refl
+    where
+      go : (r : ℕ) → remainder g m ≡ r → ltb (rank (λ k. true) (remainder g) m) (missing g) ≡ ltb (rank l (remainder g) m) (missing g)
+      go zero e =
+          let most = last m e in
+          let more = count_le (λ k. l k && before (remainder g) k m) (λ k. before (remainder g) k m) meters (λ k h q. and_right (l k) (before (remainder g) k m) q) in
+          le-ltb (rank (λ k. true) (remainder g) m) (missing g) (omega arith) ∙ sym (le-ltb (rank l (remainder g) m) (missing g) most)
+      go (suc r) e = ap (λ (n : ℕ). ltb n (missing g)) (count_same (λ k. before (remainder g) k m) (λ k. l k && before (remainder g) k m) meters (λ k h. one (l k) k refl))
+        where
+          one : (b : Bool) (k : ℕ) → l k ≡ b → before (remainder g) k m ≡ b && before (remainder g) k m
+          one true k f = refl
+          one false k f = not_before (remainder g) k m (remainder_none g k (none k f)) e
 
   pub floor_or_more : (m : ℕ) → m < meters → (share l g m ≡ floor g m) ⊎ ((share l g m ≡ floor g m + 1) × (remainder g m ≡ 0 → ⊥))
   unfolding share

@@ -3,7 +3,7 @@
 -- another code in the other, and with 19, after that, a total of zero." A function with a lent output refuses, after these, one that is shorter than
 -- the text: 3, with the length needed. A refusal puts nothing out.
 -- Assumes nothing.
-use Rattle.std.specs.Prelude.{ℕ, Bool, not, ◌&&◌, List, [], ◌∷◌, ◌++◌, ltb, eqb, length, take, drop}
+use Rattle.std.specs.Prelude.{ℕ, Option, Some, None, cond, Result, Ok, Err, Bool, not, ◌&&◌, List, [], ◌∷◌, ◌++◌, ltb, eqb, length, take, drop}
 use Rattle.transaction.specs.Transaction.{meters}
 use Rattle.table.specs.declared.Table.{Table}
 use Rattle.table.specs.TableText.{table_len, is_table, table_from}
@@ -14,8 +14,8 @@ use Rattle.heat.specs.Uses.{code_changed, gain}
 use Rattle.heat.specs.Shares.{total}
 use Rattle.heat.specs.Numerals.{numeral}
 use Rattle.heat.specs.Text.{newline, split_text, text_max}
-use Rattle.heat.specs.declared.Split.{Split}
-use Rattle.heat.specs.declared.Split.TheVariants as H
+use Rattle.heat.specs.declared.SplitError.{SplitError}
+use Rattle.heat.specs.declared.SplitError.TheVariants as E
 
 -- ---- the input: two tables, end to end
 
@@ -34,15 +34,19 @@ start_table b = table_from (start_bytes b)
 abbrev pub end_table : List ℕ → Table
 end_table b = table_from (end_bytes b)
 
+-- the two tables, where the bytes are that
+unfoldable pub year_of : List ℕ → Option (Table × Table)
+year_of b = cond (two_tables b) (Some (start_table b, end_table b)) None
+
 -- ---- what is answered
 
 -- the numbers and values of the code's answers
-unfoldable pub said_by : Split → Said
-said_by (H.Written n) = taken S.Nothing n
-said_by (H.Short n) = refused 3 (n ∷ [])
-said_by H.NoTables = refused 4 []
-said_by H.CodeChanged = refused 18 []
-said_by H.NothingUsed = refused 19 []
+unfoldable pub said_by : Result ℕ SplitError → Said
+said_by (Ok n) = taken S.Nothing n
+said_by (Err (E.Short n)) = refused 3 (n ∷ [])
+said_by (Err E.NoTables) = refused 4 []
+said_by (Err E.CodeChanged) = refused 18 []
+said_by (Err E.NothingUsed) = refused 19 []
 
 -- some meter's code changed from heat or to heat
 unfoldable pub any_changed : Table → Table → Bool

@@ -4,10 +4,11 @@
 --     .."
 -- Each line ends with one newline.
 -- Assumes nothing.
-use Rattle.std.specs.Prelude.{ℕ, zero, suc, ◌+◌, ◌*◌, cond, List, [], ◌∷◌, ◌++◌, ℤ, length}
+use Rattle.std.specs.Prelude.{ℕ, zero, suc, Option, Some, None, ◌+◌, ◌*◌, cond, List, [], ◌∷◌, ◌++◌, ℤ, length}
 use Rattle.transaction.specs.Transaction.{meters}
 use Rattle.table.specs.declared.Table.{Table}
-use Rattle.heat.specs.Uses.{listed, used, gain}
+use Rattle.octets.specs.Lists.{at}
+use Rattle.heat.specs.Uses.{listed, used, gain, use_in}
 use Rattle.heat.specs.Shares.{share}
 use Rattle.heat.specs.Numerals.{numeral, signed_numeral}
 
@@ -39,6 +40,21 @@ lines_below s e (suc n) = lines_below s e n ++ line_of s e n
 
 unfoldable pub split_text : Table → Table → List ℕ
 split_text s e = heading ++ lines_below s e meters
+
+-- ---- by what each meter used, and the shares
+
+-- the line of a meter, where it has one
+unfoldable pub line_by : ℕ → Option ℤ → ℕ → List ℕ
+line_by m None part = []
+line_by m (Some z) part = line m z part
+
+-- those of the meters below n
+unfoldable pub lines_in : List (Option ℤ) → List ℕ → ℕ → List ℕ
+lines_in us ps zero = []
+lines_in us ps (suc n) = lines_in us ps n ++ line_by n (use_in us n) (at ps n)
+
+unfoldable pub text_in : List (Option ℤ) → List ℕ → List ℕ
+text_in us ps = heading ++ lines_in us ps meters
 
 -- ---- the longest
 

@@ -1,95 +1,141 @@
 // Each meter's share of the house, in millionths: rounded down, and one more for those with the largest remainders.
-ghost use Rattle.std.specs.Prelude.{◌≡◌, cond, ℕ, ◌+◌, ◌*◌, ◌/◌, ◌%◌, ◌^◌, ◌<◌, ltb, eqb, length};
-ghost use Rattle.octets.specs.Lists.{at, tab};
+ghost use Rattle.std.specs.Prelude.{◌≡◌, cond, ℕ, ◌+◌, ◌*◌, ◌/◌, ◌%◌, ◌^◌, ◌<◌, true, MatchOption};
+ghost use Rattle.octets.specs.Lists.{at};
 ghost use Rattle.transaction.specs.Transaction.{meters};
-ghost use Rattle.heat.specs.Sums.{sum_below};
-ghost use Rattle.heat.specs.Shares.{house, rank, share, total};
+ghost use Rattle.heat.specs.Uses.{SmallUse, gain_of, listed_in, gains_in};
+ghost use Rattle.heat.specs.Shares.{house, total, remainder, missing, rank, share};
 
+use super::uses::Uses;
 use transaction::METERS;
 
 // The house, in millionths.
 const HOUSE: u64 = 1_000_000;
 
-// The remainders, and what the floors add up to.
-#[derive(Clone, Copy)]
-struct Divided {
-    remainders: [u64; METERS],
-    given: u64,
-}
-
-// Floors and remainders of the gains by their total.
-fn divide(gains: &[u64], total: u64) -> Divided
-    requires { (length gains.now ≡ meters) × (0 < total) × ((m : ℕ) → m < meters → at gains.now m < 2 ^ 32) }
-    ensures remainders { result.remainders ≡ tab meters (λ m. at gains.now m * house % total) }
-    ensures given { result.given ≡ sum_below (λ m. at gains.now m * house / total) meters }
+// What a use adds to the total: nothing of a negative one, nor of a meter without a line.
+fn gain_of(used: Option<i64>) -> u64
+    requires { SmallUse used }
+    ensures value { result ≡ gain_of used }
+    ensures small { result < 2 ^ 32 }
 {
-    let mut remainders = [0u64; METERS];
-    let mut given: u64 = 0;
-    let mut m: usize = 0;
-    while m < METERS {
-        let x = gains[m] * HOUSE;
-        remainders[m] = x % total;
-        given += x / total;
-        m += 1;
+    let Some(z) = used else {
+        return 0;
+    };
+    if z < 0 {
+        return 0;
     }
-    Divided { remainders, given }
+    z.unsigned_abs()
 }
 
-// How many listed meters come before m: those with a larger remainder, and of equal ones the lower meters.
-fn rank_of(listed: &[u8], remainders: &[u64], m: usize) -> u64
-    requires { (length listed.now ≡ meters) × (length remainders.now ≡ meters) × (m < meters) }
-    ensures { result ≡ rank (λ k. eqb (at listed.now k) 1) (at remainders.now) m }
+fn total(uses: &Uses) -> u64
+    ensures { result ≡ total (gains_in uses.now.each) }
+{
+    let mut sum = 0;
+    for used in &uses.each {
+        sum += gain_of(*used);
+    }
+    sum
+}
+
+// A meter's part of the house, rounded down, and the remainder.
+#[derive(Clone, Copy)]
+struct Part {
+    floor: u64,
+    remainder: u64,
+}
+
+// The part of a use in a total.
+fn part_of(used: Option<i64>, sum: u64) -> Part
+    requires { (0 < sum) × SmallUse used }
+    ensures floor { result.floor ≡ gain_of used * house / sum }
+    ensures remainder { result.remainder ≡ gain_of used * house % sum }
+    ensures small { result.floor < 2 ^ 52 }
+{
+    let x = gain_of(used) * HOUSE;
+    Part {
+        floor: x / sum,
+        remainder: x % sum,
+    }
+}
+
+// How many meters come before m: those with a larger remainder, and of equal ones the lower meters. All are looked at, and not
+// those with a line alone: a meter without a line has no remainder, so it is before none that has one, and one that has none
+// gets no unit (the loop with a test of the line takes three times as long).
+fn rank_of(remainders: &[u64; METERS], m: usize) -> u64
+    requires { m < meters }
+    ensures { result ≡ rank (λ k. true) (at remainders.now) m }
 {
     let own = remainders[m];
-    let mut count: u64 = 0;
-    let mut k: usize = 0;
-    while k < METERS {
+    let mut count = 0;
+    for k in 0..METERS {
         let other = remainders[k];
         let before = (own < other) | ((own == other) & (k < m));
-        let counts = (listed[k] == 1) & before;
-        count += counts as u64;
-        k += 1;
+        count += before as u64;
     }
     count
 }
 
-// The share of m where it is listed, and 0 otherwise.
-fn share_of(
-    listed: &[u8],
-    gains: &[u64],
-    remainders: &[u64],
+// The uses divided by their total, which is not zero: the remainders, and the units that the floors leave.
+#[derive(Clone, Copy)]
+struct Divided<'a> {
+    uses: &'a Uses,
     sum: u64,
-    missing: u64,
-    m: usize,
-) -> u64
-    requires { (length listed.now ≡ meters) × (length gains.now ≡ meters) × (length remainders.now ≡ meters) × (0 < sum) × (m < meters) × (at gains.now m < 2 ^ 32) }
-    ensures { result ≡ cond (eqb (at listed.now m) 1) (at gains.now m * house / sum + cond (ltb (rank (λ k. eqb (at listed.now k) 1) (at remainders.now) m) missing) 1 0) 0 }
-{
-    if listed[m] != 1 {
-        return 0;
-    }
-    let x = gains[m] * HOUSE;
-    let floor = x / sum;
-    let rank = rank_of(listed, remainders, m);
-    if rank < missing {
-        return floor + 1;
-    }
-    floor
+    remainders: [u64; METERS],
+    left: u64,
+    ghost some: { 0 < sum },
+    ghost whole: { sum ≡ total (gains_in uses.now.each) },
+    ghost rests: { (m : ℕ) → m < meters → at remainders m ≡ remainder (gains_in uses.now.each) m },
+    ghost units: { left ≡ missing (gains_in uses.now.each) },
 }
 
-// The shares of the listed meters, whose gains add up to this sum.
-pub(crate) fn shares(listed: &[u8], gains: &[u64], sum: u64) -> [u64; METERS]
-    requires { (length listed.now ≡ meters) × (length gains.now ≡ meters) × (0 < sum) × (sum ≡ total (at gains.now)) × ((m : ℕ) → m < meters → at gains.now m < 2 ^ 32) }
-    ensures { result ≡ tab meters (λ m. cond (eqb (at listed.now m) 1) (share (λ k. eqb (at listed.now k) 1) (at gains.now) m) 0) }
-{
-    let d = divide(gains, sum);
-    let missing = HOUSE - d.given;
-    let mut shares = [0u64; METERS];
-    let mut m: usize = 0;
-    while m < METERS {
-        let s = share_of(listed, gains, &d.remainders, sum, missing, m);
-        shares[m] = s;
-        m += 1;
+impl<'a> Divided<'a> {
+    // None where nothing was used.
+    fn of(uses: &'a Uses) -> Option<Divided<'a>>
+        ensures { MatchOption result (total (gains_in uses.now.each) ≡ 0) (λ d. d.uses.now ≡ uses.now) }
+    {
+        let sum = total(uses);
+        if sum == 0 {
+            return None;
+        }
+        let mut remainders = [0; METERS];
+        let mut given = 0;
+        for m in 0..METERS {
+            let part = part_of(uses.each[m], sum);
+            remainders[m] = part.remainder;
+            given += part.floor;
+        }
+        Some(Divided {
+            uses,
+            sum,
+            remainders,
+            left: HOUSE - given,
+        })
     }
-    shares
+
+    // The share of a meter: 0 of one without a line.
+    fn share_of(&self, m: usize) -> u64
+        requires { m < meters }
+        ensures { result ≡ cond (listed_in self.now.uses.now.each m) (share (listed_in self.now.uses.now.each) (gains_in self.now.uses.now.each) m) 0 }
+    {
+        let used = self.uses.each[m];
+        if used.is_none() {
+            return 0;
+        }
+        let floor = part_of(used, self.sum).floor;
+        if rank_of(&self.remainders, m) < self.left {
+            return floor + 1;
+        }
+        floor
+    }
+}
+
+// The shares of the meters: none where nothing was used.
+pub(crate) fn shares(uses: &Uses) -> Option<[u64; METERS]>
+    ensures { MatchOption result (total (gains_in uses.now.each) ≡ 0) (λ s. (total (gains_in uses.now.each) ≡ 0 → ⊥) × ((m : ℕ) → m < meters → at s m ≡ cond (listed_in uses.now.each m) (share (listed_in uses.now.each) (gains_in uses.now.each) m) 0)) }
+{
+    let d = Divided::of(uses)?;
+    let mut shares = [0; METERS];
+    for m in 0..METERS {
+        shares[m] = d.share_of(m);
+    }
+    Some(shares)
 }

@@ -1,111 +1,96 @@
 // What each meter used, by the table at the start of the year and the one at its end.
-ghost use Rattle.std.specs.Prelude.{◌≡◌, true, cond, ℕ, ◌^◌, ◌<◌, ◌-ℤ◌};
-ghost use Rattle.std.specs.Int.Signed.{mag};
-ghost use Rattle.octets.specs.Lists.{tab};
+ghost use Rattle.std.specs.Prelude.{◌≡◌, true, false, ◌-ℤ◌, IfOk, MatchResult, Err};
 ghost use Rattle.transaction.specs.Transaction.{meters};
+ghost use Rattle.table.specs.declared.Table.{Table};
 ghost use Rattle.table.specs.TableText.{is_table, table_from};
-ghost use Rattle.heat.specs.Uses.{heat_in_both, heat_in_one, difference, counted, listed, gain};
-ghost use Rattle.heat.specs.Shares.{total};
-ghost use Rattle.heat.specs.Answer.{any_changed};
+ghost use Rattle.heat.specs.Uses.{use_by, difference, AreUses, AreSmall, SmallUse};
+ghost use Rattle.heat.specs.Answer.{two_tables, year_of, any_changed};
 
-use table::Entry;
+use super::{SplitError, TABLES_LEN};
+use std::marker::Model;
+use table::{Entry, TABLE_LEN};
 use transaction::METERS;
 
 // The code of a heat meter.
 const HEAT: u8 = 3;
 
-// What a meter's two entries say.
-#[derive(Clone, Copy)]
-pub struct Use {
-    pub listed: bool,
-    pub changed: bool,
-    pub used: i64,
-    pub gain: u64,
-}
-
-// What a use adds to the total: nothing of a negative one, nor of a meter that is not listed.
-fn gain_of(listed: bool, used: i64) -> u64
-    ensures { result ≡ cond listed (counted used) 0 }
+// Whether the bytes are a table's text.
+fn is_table(s: &[u8]) -> bool
+    ensures { result ≡ is_table s.now }
 {
-    if !listed {
-        return 0;
-    }
-    if 0 <= used {
-        return used as u64;
-    }
-    0
+    table::table_in(s).is_some()
 }
 
 // The difference of two readings: they are widened first, since it may need 33 bits.
 fn difference(start: i32, end: i32) -> i64
     ensures { result ≡ end -ℤ start }
 {
-    let a = start as i64;
-    let b = end as i64;
-    b - a
+    i64::from(end) - i64::from(start)
 }
 
-// What the entries say, the start's first.
-pub(crate) fn use_of(a: Entry, b: Entry) -> Use
-    ensures listed { result.listed ≡ heat_in_both a b }
-    ensures changed { result.changed ≡ heat_in_one a b }
-    ensures used { result.used ≡ difference a b }
-    ensures gain { result.gain ≡ cond (heat_in_both a b) (counted (difference a b)) 0 }
-    ensures small { (mag result.used < 2 ^ 32) × (result.gain < 2 ^ 32) }
+// What a meter used by its two entries, the start's first: none where it has no line.
+fn use_by(a: Entry, b: Entry) -> Result<Option<i64>, SplitError>
+    ensures value { result ≡ use_by a b }
+    ensures small { IfOk result SmallUse }
 {
-    let both = a.present & b.present;
-    let was = a.code == HEAT;
-    let is = b.code == HEAT;
-    let listed = both & was & is;
-    let changed = both & ((was & !is) | (!was & is));
-    let used = difference(a.reading, b.reading);
-    let gain = gain_of(listed, used);
-    Use {
-        listed,
-        changed,
-        used,
-        gain,
+    if !(a.present & b.present) {
+        return Ok(None);
+    }
+    match (a.code == HEAT, b.code == HEAT) {
+        (true, true) => Ok(Some(difference(a.reading, b.reading))),
+        (false, false) => Ok(None),
+        _ => Err(SplitError::CodeChanged),
     }
 }
 
-// What two tables say: whether a code changed from heat or to heat, the total, which meters are listed (1, else 0), and what
-// each adds to the total.
+// What each meter used: none of one without a line. A use is the difference of two readings of 32 bits.
 #[derive(Clone, Copy)]
-pub struct Uses {
-    pub changed: bool,
-    pub total: u64,
-    pub listed: [u8; METERS],
-    pub gains: [u64; METERS],
+pub(crate) struct Uses {
+    pub(crate) each: [Option<i64>; METERS],
+    ghost small: { AreSmall each },
 }
 
-// What the tables say, the start's first.
-pub(crate) fn uses_in(start: &[u8], end: &[u8]) -> Uses
-    requires { (is_table start.now ≡ true) × (is_table end.now ≡ true) }
-    ensures changed { result.changed ≡ any_changed (table_from start.now) (table_from end.now) }
-    ensures total { result.total ≡ total (gain (table_from start.now) (table_from end.now)) }
-    ensures listed { result.listed ≡ tab meters (λ m. cond (listed (table_from start.now) (table_from end.now) m) 1 0) }
-    ensures gains { result.gains ≡ tab meters (gain (table_from start.now) (table_from end.now)) }
-    ensures small { (m : ℕ) → m < meters → gain (table_from start.now) (table_from end.now) m < 2 ^ 32 }
-{
-    let mut changed = false;
-    let mut total: u64 = 0;
-    let mut listed = [0u8; METERS];
-    let mut gains = [0u64; METERS];
-    let mut m: usize = 0;
-    while m < METERS {
-        let a = table::entry_at(start, m);
-        let b = table::entry_at(end, m);
-        let u = use_of(a, b);
-        changed = changed | u.changed;
-        total += u.gain;
-        listed[m] = u.listed as u8;
-        gains[m] = u.gain;
-        m += 1;
+// The texts of two tables, the start's and the end's. Contracts see the tables.
+#[derive(Drop)]
+pub(crate) struct Year<'a> {
+    start: &'a [u8],
+    end: &'a [u8],
+}
+
+impl<'a> Model for Year<'a> {
+    ghost Value = { Table × Table };
+
+    ghost view = { λ y. (table_from y.start.now, table_from y.end.now) };
+
+    ghost invariant = { λ y. (is_table y.start.now ≡ true) × (is_table y.end.now ≡ true) };
+}
+
+impl<'a> Year<'a> {
+    // The year of two tables' texts, end to end: none of bytes that are not two tables.
+    pub(crate) fn of(tables: &'a [u8]) -> Option<Year<'a>>
+        ensures { result ≡ year_of tables.now }
+    {
+        if tables.len() != TABLES_LEN {
+            return None;
+        }
+        let (start, end) = tables.split_at(TABLE_LEN);
+        if !is_table(start) {
+            return None;
+        }
+        if !is_table(end) {
+            return None;
+        }
+        Some(Year { start, end })
     }
-    Uses {
-        changed,
-        total,
-        listed,
-        gains,
+
+    // What each meter used; or that a meter in both is heat in one and another code in the other.
+    pub(crate) fn uses(&self) -> Result<Uses, SplitError>
+        ensures { MatchResult result (λ u. (any_changed self.now.0 self.now.1 ≡ false) × AreUses self.now.0 self.now.1 u.each) (λ e. (any_changed self.now.0 self.now.1 ≡ true) × (e ≡ SplitError.CodeChanged)) }
+    {
+        let mut each = [None; METERS];
+        for m in 0..METERS {
+            each[m] = use_by(table::entry_at(self.start, m), table::entry_at(self.end, m))?;
+        }
+        Ok(Uses { each })
     }
 }

@@ -6,53 +6,17 @@
 // that whoever writes it can write all of it.
 #![tactic(auto)]
 
-ghost use Rattle.std.specs.Prelude.{◌≤◌, IfOk, length};
-
 use heat::TABLES_LEN;
 use std::io;
 use std::io::Read;
 
-const KEPT: usize = TABLES_LEN + 1;
-
-// Reads until buf is full or the input ends, and answers how many bytes it put at the start of buf.
-fn fill(from: &mut impl Read, buf: &mut [u8]) -> io::Result<usize>
-    ensures { IfOk result (λ n. n ≤ length buf.new) }
-{
-    let mut done = 0;
-    while done < buf.len() {
-        let n = from.read(&mut buf[done..])?;
-        if n == 0 {
-            break;
-        }
-        done += n;
-    }
-    Ok(done)
-}
-
-// Reads once, drops what came, and answers whether there may be more.
-fn drop_some(from: &mut impl Read) -> io::Result<bool> {
-    let mut buf = [0u8; 65536];
-    let got = from.read(&mut buf)?;
-    Ok(0 < got)
-}
-
-// Reads to the end of the input. A proved loop has to end, and nothing says that an input does: so the loop counts its turns
-// down, from a number that no run uses up.
-fn drop_rest(from: &mut impl Read) -> io::Result<()> {
-    let mut turns = u64::MAX;
-    while turns > 0 && drop_some(from)? {
-        turns -= 1;
-    }
-    Ok(())
-}
+const KEPT: u64 = TABLES_LEN as u64 + 1;
 
 fn main(rt: HostRuntime) -> io::Result<()> {
     let mut from = rt.reader();
-    let mut input = [0u8; KEPT];
-    let n = fill(&mut from, &mut input)?;
-    drop_rest(&mut from)?;
-    let p = heat::print(&input[..n]);
-    let len = p.len;
-    let bytes = p.bytes;
-    rt.write_all(&bytes[..len])
+    let mut input = Vec::new(rt.alloc());
+    from.by_ref().take(KEPT).read_to_end(&mut input)?;
+    io::copy(&mut from, &mut io::sink())?;
+    let p = heat::print(&input);
+    rt.write_all(&p.bytes[..p.len])
 }

@@ -2,6 +2,5 @@
 pub mod BeyondLaws
 pub mod MarkLaws
 pub mod CountLaws
-pub mod WalkLaws
 pub mod LaidLaws
 pub mod PointLaws

@@ -1,24 +1,25 @@
--- The points kept by their places: one found, all of them covered, those above a position.
+-- The points kept: one found, all of them covered, those above a position.
 -- Assumes nothing.
 use Prim.Native.Nat.{ℕ, zero, suc, ◌+◌, ◌-◌, ◌≤◌, ◌<◌}
-use mathlib.Core.Path.{◌≡◌, refl, sym, ap, ap₂, subst, ◌∙◌}
+use mathlib.Core.Path.{◌≡◌, refl, sym, ap, subst, ◌∙◌}
 use mathlib.Core.Bool.{Bool, true, false, cond}
-use mathlib.Core.List.{List, [], ◌∷◌, ◌++◌, map, append_assoc, append-nil}
-use mathlib.Core.Option.{Option, some, none}
+use mathlib.Core.List.{List, [], ◌∷◌, ◌++◌, map, append-nil}
+use Rattle.std.specs.Prelude.{Option, Some, eqb}
+use Rattle.std.specs.List.{find}
+use Rattle.std.proofs.Math.ListN.{get_or-map}
 use native.Mathlib.Numerals.{add-one}
 use native.Mathlib.Omega.{arith}
-use borrow.Author.Tests.{lt-ltb, le-ltb, eq-eqb, ne_eqb}
+use borrow.Author.Tests.{lt-ltb, le-ltb}
 use lib.Dec.{ltb}
-use lib.ListN.{length, get_or, set, take, drop, replicate, length-append, length-map, drop_of_length-le}
-use lib.Seq.{length-take-le, take_all, take-suc, drop-cons, take-length, get_or-take, get_or_at, set_at}
+use lib.ListN.{length, get_or, set, take, replicate, length-append, length-map}
+use lib.Seq.{ext_get_or, take-suc, take-length}
 use Rattle.protocol.specs.States.{points_max, no_point}
 use Rattle.protocol.specs.Truncate.{points_of, find_point, points_above, dropped_to}
 use Rattle.protocol.specs.declared.Point.{Point}
 use Rattle.protocol.specs.declared.Points.{Points}
-use Rattle.protocol.proofs.Listed.{map_snoc}
 use Rattle.journal.proofs.LaidLaws.{fill_more}
 
--- ---- the first n of an array
+-- ---- the points kept
 
 module _ {A : Type 0} where
   take_of : (k : ℕ) (l : List A) → take (length (take k l)) l ≡ take k l
@@ -26,65 +27,18 @@ module _ {A : Type 0} where
   take_of (suc k) [] = refl
   take_of (suc k) (x ∷ l) = ap (λ (r : List A). x ∷ r) (take_of k l)
 
-  -- those behind a place
-  pub first_behind : (l : List A) (n i : ℕ) (d : A) → i < n → n ≤ length l → drop i (take n l) ≡ get_or l i d ∷ drop (i + 1) (take n l)
-  first_behind l n i d h r =
-      drop-cons (take n l) i d (let e = length-take-le n l r in omega arith)
-      ∙ ap₂ (λ (x : A) (k : ℕ). x ∷ drop k (take n l)) (get_or-take n l i d h) (sym (add-one i))
-
-  -- those before the next place
-  pub first_before : (l : List A) (n i : ℕ) (d : A) → i < n → n ≤ length l → take (i + 1) (take n l) ≡ take i (take n l) ++ (get_or l i d ∷ [])
-  first_before l n i d h r =
-      ap (λ (k : ℕ). take k (take n l)) (add-one i)
-      ∙ take-suc (take n l) i d (let e = length-take-le n l r in omega arith)
-      ∙ ap (λ (x : A). take i (take n l) ++ (x ∷ [])) (get_or-take n l i d h)
-
 pub kept_first : (p : Points) {n : ℕ} → n ≡ length (points_of p) → take n p.items ≡ points_of p
 unfolding points_of
 kept_first p e = ap (λ (k : ℕ). take k p.items) e ∙ take_of p.count p.items
 
--- ---- one found
-
-module _ (position : ℕ) (l : List Point) (n i : ℕ) (d : Point) (h : i < n) (r : n ≤ length l) where
-  pub find_here : (get_or l i d).position ≡ position → find_point position (drop i (take n l)) ≡ some (get_or l i d)
-  unfolding find_point
-  find_here e =
-      ap (find_point position) (first_behind l n i d h r)
-      ∙ ap (λ (t : Bool). cond t (some (get_or l i d)) (find_point position (drop (i + 1) (take n l)))) (eq-eqb (get_or l i d).position position e)
-
-  pub find_on : ((get_or l i d).position ≡ position → ⊥) → find_point position (drop i (take n l)) ≡ find_point position (drop (i + 1) (take n l))
-  unfolding find_point
-  find_on e =
-      ap (find_point position) (first_behind l n i d h r)
-      ∙ ap (λ (t : Bool). cond t (some (get_or l i d)) (find_point position (drop (i + 1) (take n l)))) (ne_eqb (get_or l i d).position position e)
-
--- at the end
-pub find_none : (position : ℕ) (l : List Point) (i : ℕ) → length l ≤ i → find_point position (drop i l) ≡ none
+pub found_is : (position : ℕ) (ps : List Point) → find (λ q. eqb q.position position) ps ≡ find_point position ps
 unfolding find_point
-find_none position l i h = ap (find_point position) (drop_of_length-le l {i = i} h)
+found_is position [] = refl
+found_is position (p ∷ ps) = ap (λ (o : Option Point). cond (eqb p.position position) (Some p) o) (found_is position ps)
 
--- what is found among the first n is what is found among the points kept
-pub find_kept : (position : ℕ) (p : Points) {n : ℕ} {o : Option Point} → n ≡ length (points_of p) → find_point position (take n p.items) ≡ o → find_point position (points_of p) ≡ o
-find_kept position p e f = ap (find_point position) (sym (kept_first p e)) ∙ f
-
--- ---- all of them covered
-
--- the first i replaced by what f makes of them
-pub map_more : {A : Type 0} (f : A → A) (l₀ : List A) {l : List A} {x : A} (i : ℕ) (d : A) → i < length l₀ → l ≡ map f (take i l₀) ++ drop i l₀ → x ≡ f (get_or l i d)
-    → set l i x ≡ map f (take (i + 1) l₀) ++ drop (i + 1) l₀
-map_more {A} f l₀ {l} i d h e k =
-    let y = get_or l₀ i d in
-    let front = map f (take i l₀) in
-    let rest = drop (suc i) l₀ in
-    let n : length front ≡ i = length-map (take i l₀) f ∙ length-take-le i l₀ (omega arith) in
-    let s : l ≡ front ++ y ∷ rest = e ∙ ap (λ (r : List A). front ++ r) (drop-cons l₀ i d h) in
-    let g : get_or l i d ≡ y = ap (λ (r : List A). get_or r i d) s ∙ get_or_at front y rest d i n in
-    ap₂ (λ (r : List A) (z : A). set r i z) s (k ∙ ap f g)
-    ∙ set_at front y rest (f y) i n
-    ∙ rw (add-one i, take-suc l₀ i d h, map_snoc f (take i l₀) y, append_assoc)
-
-pub map_all : {A : Type 0} (f : A → A) (l₀ : List A) {l : List A} (i : ℕ) → length l₀ ≤ i → l ≡ map f (take i l₀) ++ drop i l₀ → l ≡ map f l₀
-map_all f l₀ i h e = e ∙ rw (take_all i l₀ h, drop_of_length-le l₀ {i = i} h, append-nil)
+-- an array of what f makes of each
+pub mapped : {A : Type 0} (f : A → A) (xs ys : List A) (d : A) → length ys ≡ length xs → ((i : ℕ) → i < length xs → get_or ys i (f d) ≡ f (get_or xs i d)) → ys ≡ map f xs
+mapped f xs ys d n e = ext_get_or (f d) ys (map f xs) (n ∙ sym (length-map xs f)) (λ i h. e i (omega (arith, n)) ∙ sym (get_or-map f xs i d))
 
 -- ---- those above a position
 
@@ -115,26 +69,25 @@ pub kept_none : (p : ℕ) (l : List Point) {none : Point} → none ≡ no_point 
 unfolding points_above
 kept_none p l e = record { items_are = ap (replicate points_max) e; count_is = refl }
 
-module _ (p : ℕ) (l : List Point) (n i : ℕ) (d : Point) {items : List Point} {count : ℕ} (h : i < n) (r : n ≤ length l)
-    (k : Kept (points_above p (take i (take n l))) items count) where
-  next : points_above p (take (i + 1) (take n l)) ≡ points_above p (take i (take n l)) ++ points_above p (get_or l i d ∷ [])
-  next = ap (points_above p) (first_before l n i d h r) ∙ above_append p (take i (take n l)) (get_or l i d ∷ [])
+module _ (p : ℕ) (l : List Point) (i : ℕ) (d : Point) {items : List Point} {count : ℕ} (h : i < length l) (k : Kept (points_above p (take i l)) items count) where
+  next : points_above p (take (i + 1) l) ≡ points_above p (take i l) ++ points_above p (get_or l i d ∷ [])
+  next = ap (λ (j : ℕ). points_above p (take j l)) (add-one i) ∙ ap (points_above p) (take-suc l i d h) ∙ above_append p (take i l) (get_or l i d ∷ [])
 
-  pub kept_in : count < points_max → p < (get_or l i d).position → Kept (points_above p (take (i + 1) (take n l))) (set items count (get_or l i d)) (count + 1)
+  pub kept_in : count < points_max → p < (get_or l i d).position → Kept (points_above p (take (i + 1) l)) (set items count (get_or l i d)) (count + 1)
   unfolding points_above
   kept_in room q =
-      let e = next ∙ ap (λ (t : Bool). points_above p (take i (take n l)) ++ cond t (get_or l i d ∷ []) []) (lt-ltb p (get_or l i d).position q) in
-      subst (λ (ps : List Point). Kept ps (set items count (get_or l i d)) (count + 1)) (sym e) (kept_snoc (points_above p (take i (take n l))) (get_or l i d) room k)
+      let e = next ∙ ap (λ (t : Bool). points_above p (take i l) ++ cond t (get_or l i d ∷ []) []) (lt-ltb p (get_or l i d).position q) in
+      subst (λ (ps : List Point). Kept ps (set items count (get_or l i d)) (count + 1)) (sym e) (kept_snoc (points_above p (take i l)) (get_or l i d) room k)
 
-  pub kept_out : (get_or l i d).position ≤ p → Kept (points_above p (take (i + 1) (take n l))) items count
+  pub kept_out : (get_or l i d).position ≤ p → Kept (points_above p (take (i + 1) l)) items count
   unfolding points_above
   kept_out q =
-      let e = next ∙ ap (λ (t : Bool). points_above p (take i (take n l)) ++ cond t (get_or l i d ∷ []) []) (le-ltb p (get_or l i d).position q) ∙ append-nil (points_above p (take i (take n l))) in
+      let e = next ∙ ap (λ (t : Bool). points_above p (take i l) ++ cond t (get_or l i d ∷ []) []) (le-ltb p (get_or l i d).position q) ∙ append-nil (points_above p (take i l)) in
       subst (λ (ps : List Point). Kept ps items count) (sym e) k
 
-pub kept_all : (p : Points) (position : ℕ) {n i : ℕ} {items : List Point} {count : ℕ} → n ≡ length (points_of p) → i ≡ n → Kept (points_above position (take i (take n p.items))) items count
+pub kept_all : (p : Points) (position : ℕ) {l : List Point} {i : ℕ} {items : List Point} {count : ℕ} → l ≡ points_of p → i ≡ length l → Kept (points_above position (take i l)) items count
     → record { items = items; count = count; any = p.any; newest = p.newest } ≡ dropped_to p position
 unfolding dropped_to
-kept_all p position {n} {i} e f k =
-    let t : take i (take n p.items) ≡ points_of p = ap (λ (l : List Point). take i l) (kept_first p e) ∙ ap (λ (m : ℕ). take m (points_of p)) (f ∙ e) ∙ take-length (points_of p) in
+kept_all p position {l} {i} e f k =
+    let t : take i l ≡ points_of p = ap (λ (j : ℕ). take j l) f ∙ take-length l ∙ e in
     rw (k.items_are, k.count_is, t)

@@ -21,11 +21,9 @@ pub mod points;
 pub fn no_journal() -> Journal
     ensures { result ≡ no_journal }
 {
-    let positions = [0u64; LISTED];
-    let lanes = [0u8; LISTED];
     Journal {
-        positions,
-        lanes,
+        positions: [0u64; LISTED],
+        lanes: [0u8; LISTED],
         count: 0,
         used: false,
         last: 0,
@@ -36,10 +34,9 @@ pub fn no_journal() -> Journal
 pub fn no_point() -> Point
     ensures { result ≡ no_point }
 {
-    let counts = [0u64; LANES as usize];
     Point {
         position: 0,
-        counts,
+        counts: [0u64; LANES as usize],
         covered: false,
     }
 }
@@ -48,10 +45,8 @@ pub fn no_point() -> Point
 pub fn no_points() -> Points
     ensures { result ≡ no_points }
 {
-    let none = no_point();
-    let items = [none; POINTS];
     Points {
-        items,
+        items: [no_point(); POINTS],
         count: 0,
         any: false,
         newest: 0,
@@ -62,9 +57,8 @@ pub fn no_points() -> Points
 pub fn no_held() -> Held
     ensures { result ≡ no_held }
 {
-    let text = [0u8; MAX_TEXT];
     Held {
-        text,
+        text: [0u8; MAX_TEXT],
         len: 0,
         lane: 0,
         position: 0,
@@ -72,6 +66,7 @@ pub fn no_held() -> Held
 }
 
 // The list with a record more, its position the last one used; a full list stays as it is.
+#[tactic(auto, unfolding(crate::specs::Beyond::listed_if, protocol::specs::Accept::listed_more))]
 pub fn listed_more(j: Journal, lane: u8, position: u64) -> Journal
     ensures { result ≡ listed_if j lane position }
 {
@@ -79,20 +74,17 @@ pub fn listed_more(j: Journal, lane: u8, position: u64) -> Journal
     if LISTED <= n {
         return j;
     }
-    let mut positions = j.positions;
-    let mut lanes = j.lanes;
-    positions[n] = position;
-    lanes[n] = lane;
-    Journal {
-        positions,
-        lanes,
-        count: n + 1,
-        used: true,
-        last: position,
-    }
+    let mut next = j;
+    next.positions[n] = position;
+    next.lanes[n] = lane;
+    next.count = n + 1;
+    next.used = true;
+    next.last = position;
+    next
 }
 
 // Whether a position is not above the newest point, or not above the last position used.
+#[tactic(auto, unfolding(protocol::specs::Accept::too_low))]
 pub fn too_low(p: Points, j: Journal, position: u64) -> bool
     ensures { result ≡ too_low p j position }
 {
@@ -100,6 +92,7 @@ pub fn too_low(p: Points, j: Journal, position: u64) -> bool
 }
 
 // The transaction held for Seal; a text longer than any transaction is not held.
+#[tactic(auto, unfolding(crate::specs::Beyond::held_if, protocol::specs::Accept::holding))]
 pub fn holding(text: &[u8], lane: u8, position: u64) -> Held
     ensures { result ≡ held_if text.now lane position }
 {
@@ -108,7 +101,7 @@ pub fn holding(text: &[u8], lane: u8, position: u64) -> Held
         return no_held();
     }
     let mut bytes = [0u8; MAX_TEXT];
-    octets::copy(text, &mut bytes);
+    bytes[..len].copy_from_slice(text);
     Held {
         text: bytes,
         len,

@@ -1,8 +1,8 @@
 // The listed records (01, Operations, Point): which of them stand at or above a position, how many numbers of each lane
 // lie below it, and whether one below it is not visible.
 //
-// A listed record's number is W of its lane less the listed records of that lane behind it, so the walk goes from the
-// last record to the first. Nothing public here has a `requires`: a count above 128 lists 128 records.
+// A listed record's number is W of its lane less the listed records of that lane behind it, so the walk that looks at numbers
+// goes from the last record to the first. Nothing public here has a `requires`: a count above 128 lists 128 records.
 ghost use Rattle.std.specs.Prelude.{◌≡◌, ◌≤◌, length};
 ghost use Rattle.protocol.specs.States.{listed};
 ghost use Rattle.protocol.specs.Point.{marks_of, marks_from, unseen_below, journal_of, counts_at};
@@ -11,59 +11,55 @@ ghost use Rattle.journal.specs.Less.{one_less};
 use protocol::{Journal, LISTED, Lanes, Vault};
 
 // How many records are listed.
+#[tactic(auto, using(crate::proofs::MarkLaws::length_marks), unfolding(protocol::specs::Point::marks_of))]
 fn listed_in(j: Journal) -> usize
     ensures count { result ≡ length (marks_of j) }
     ensures room { result ≤ listed }
 {
-    let n = j.count;
-    if n < LISTED { n } else { LISTED }
+    j.count.min(LISTED)
 }
 
 // The numbers of the lanes with that of a lane less 1; a 0 stays, and a lane above 7 changes nothing.
+#[tactic(auto, unfolding(crate::specs::Less::one_less))]
 fn one_less(a: Lanes, lane: u8) -> Lanes
     ensures { result ≡ one_less a lane }
 {
     let k = vault::lane_at(a, lane);
-    let down = if k == 0 { 0 } else { k - 1 };
-    vault::lane_set(a, lane, down)
+    vault::lane_set(a, lane, k.saturating_sub(1))
 }
 
 // For each lane how many numbers lie below a position: W less the listed records at or above it.
 pub fn counts_at(x: Vault, j: Journal, position: u64) -> Lanes
     ensures { result ≡ counts_at x.w (marks_from position (marks_of j)) }
 {
-    let mut left = x.w;
-    let mut i = listed_in(j);
-    while 0 < i {
-        i -= 1;
-        let p = j.positions[i];
-        let lane = j.lanes[i];
-        if position <= p {
-            let next = one_less(left, lane);
-            left = next;
-        }
-    }
-    left
+    let n = listed_in(j);
+    j.positions[..n]
+        .iter()
+        .zip(&j.lanes[..n])
+        .filter(|(p, _)| position <= **p)
+        .map(|(_, lane)| *lane)
+        .fold(x.w, one_less)
 }
 
 // Whether a listed record below a position is not visible.
 pub fn unseen_below(j: Journal, x: Vault, position: u64) -> bool
     ensures { result ≡ unseen_below position x.w x.v (marks_of j) }
 {
+    let n = listed_in(j);
+    let w = x.w;
     let v = x.v;
-    let mut left = x.w;
-    let mut unseen = false;
-    let mut i = listed_in(j);
-    while 0 < i {
-        i -= 1;
-        let p = j.positions[i];
-        let lane = j.lanes[i];
-        let number = vault::lane_at(left, lane);
-        let seen = vault::lane_at(v, lane);
-        unseen = ((p < position) & (seen < number)) | unseen;
-        let next = one_less(left, lane);
-        left = next;
-    }
+    let positions = j.positions[..n].iter().rev();
+    let lanes = j.lanes[..n].iter().rev();
+    let (_, unseen) = positions
+        .zip(lanes)
+        .fold((w, false), |(left, unseen), (p, lane)| {
+            let number = vault::lane_at(left, *lane);
+            let seen = vault::lane_at(v, *lane);
+            (
+                one_less(left, *lane),
+                ((*p < position) & (seen < number)) | unseen,
+            )
+        });
     unseen
 }
 
@@ -72,25 +68,15 @@ pub fn journal_from(j: Journal, position: u64) -> Journal
     ensures { result ≡ journal_of (marks_from position (marks_of j)) j.used j.last }
 {
     let n = listed_in(j);
-    let mut positions = [0u64; LISTED];
-    let mut lanes = [0u8; LISTED];
-    let mut count: usize = 0;
-    let mut i: usize = 0;
-    while i < n {
-        let p = j.positions[i];
-        let lane = j.lanes[i];
-        if position <= p {
-            positions[count] = p;
-            lanes[count] = lane;
-            count += 1;
+    let mut kept = crate::no_journal();
+    for (p, lane) in j.positions[..n].iter().zip(&j.lanes[..n]) {
+        if position <= *p {
+            kept.positions[kept.count] = *p;
+            kept.lanes[kept.count] = *lane;
+            kept.count += 1;
         }
-        i += 1;
     }
-    Journal {
-        positions,
-        lanes,
-        count,
-        used: j.used,
-        last: j.last,
-    }
+    kept.used = j.used;
+    kept.last = j.last;
+    kept
 }

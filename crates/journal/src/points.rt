@@ -6,18 +6,12 @@ ghost use Rattle.std.specs.Prelude.{◌≡◌, ◌≤◌, length};
 ghost use Rattle.protocol.specs.States.{points_max};
 ghost use Rattle.protocol.specs.Checkpoint.{covered_point, covered_points};
 ghost use Rattle.protocol.specs.Truncate.{points_of, find_point, dropped_to};
-ghost use Rattle.journal.specs.Beyond.{points_if, shown_point};
+ghost use Rattle.journal.specs.Beyond.{points_if};
 
 use protocol::{POINTS, Point, Points};
 
-// A point that was looked for: the empty one where it is not kept.
-#[derive(Clone, Copy)]
-pub struct PointFound {
-    pub found: bool,
-    pub point: Point,
-}
-
 // The points with one more, now the newest; where 8 are kept they stay as they are.
+#[tactic(auto, unfolding(crate::specs::Beyond::points_if, protocol::specs::Point::points_more))]
 pub fn points_more(p: Points, q: Point) -> Points
     ensures { result ≡ points_if p q }
 {
@@ -25,97 +19,63 @@ pub fn points_more(p: Points, q: Point) -> Points
     if POINTS <= n {
         return p;
     }
-    let mut items = p.items;
-    items[n] = q;
-    Points {
-        items,
-        count: n + 1,
-        any: true,
-        newest: q.position,
-    }
+    let mut next = p;
+    next.items[n] = q;
+    next.count = n + 1;
+    next.any = true;
+    next.newest = q.position;
+    next
 }
 
 // A point with a checkpoint that covers it.
+#[tactic(auto, unfolding(protocol::specs::Checkpoint::covered_point))]
 fn covered_point(q: Point) -> Point
     ensures { result ≡ covered_point q }
 {
-    let mut next = q;
-    next.covered = true;
-    next
+    Point { covered: true, ..q }
 }
 
 // The points, each covered.
 pub fn covered_points(p: Points) -> Points
     ensures { result ≡ covered_points p }
 {
-    let mut items = p.items;
-    let mut i: usize = 0;
-    while i < POINTS {
-        let q = items[i];
-        let next = covered_point(q);
-        items[i] = next;
-        i += 1;
-    }
     Points {
-        items,
-        count: p.count,
-        any: p.any,
-        newest: p.newest,
+        items: p.items.map(covered_point),
+        ..p
     }
 }
 
 // How many points are kept.
+#[tactic(auto, unfolding(protocol::specs::Truncate::points_of))]
 fn kept_in(p: Points) -> usize
     ensures count { result ≡ length (points_of p) }
     ensures room { result ≤ points_max }
 {
-    let n = p.count;
-    if n < POINTS { n } else { POINTS }
+    p.count.min(POINTS)
 }
 
 // The first point kept at a position.
-pub fn find_point(p: Points, position: u64) -> PointFound
-    ensures { result ≡ shown_point (find_point position (points_of p)) }
+pub fn find_point(p: Points, position: u64) -> Option<Point>
+    ensures { result ≡ find_point position (points_of p) }
 {
-    let n = kept_in(p);
-    let items = p.items;
-    let mut i: usize = 0;
-    while i < n {
-        let point = items[i];
-        if point.position == position {
-            return PointFound { found: true, point };
-        }
-        i += 1;
-    }
-    let none = crate::no_point();
-    PointFound {
-        found: false,
-        point: none,
-    }
+    p.items[..kept_in(p)]
+        .iter()
+        .find(|q| q.position == position)
+        .copied()
 }
 
 // The points above a position, with empty places behind.
 pub fn dropped_to(p: Points, position: u64) -> Points
     ensures { result ≡ dropped_to p position }
 {
-    let n = kept_in(p);
-    let old = p.items;
-    let none = crate::no_point();
-    let mut items = [none; POINTS];
+    let mut items = [crate::no_point(); POINTS];
     let mut count: usize = 0;
-    let mut i: usize = 0;
-    while i < n {
-        let q = old[i];
+    let kept = &p.items[..kept_in(p)];
+    for q in kept {
         if position < q.position {
-            items[count] = q;
+            items[count] = *q;
             count += 1;
         }
-        i += 1;
     }
-    Points {
-        items,
-        count,
-        any: p.any,
-        newest: p.newest,
-    }
+    Points { items, count, ..p }
 }

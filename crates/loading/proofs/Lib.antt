@@ -1,2 +1,1 @@
--- LoadLaws: what Load answers on each of its ways out.
-pub mod LoadLaws
+-- The proofs are those of the functions.

@@ -2,13 +2,13 @@
 -- Assumes nothing.
 use mathlib.Core.Path.{◌≡◌, refl, sym, ap, ap₂, ◌∙◌}
 use mathlib.Core.List.{List, [], ◌∷◌, ◌++◌}
-use Prim.Native.Nat.{ℕ, zero, suc, ◌+◌, ◌-◌, ◌*◌, ◌/◌, ◌%◌, ◌^◌, ◌<◌, ◌≤◌}
-use native.Mathlib.Nat.{zero-add, suc-add, add-suc, add-zero, add_comm, mul-one, mul-add, mul-suc, div-one, pow-suc, not-suc-le-zero, lt_of_lt_of_le, mod-one, mod-eq_of_lt, mul_comm, mul-le-mul_right, suc-mul}
+use Prim.Native.Nat.{ℕ, zero, suc, ◌+◌, ◌*◌, ◌/◌, ◌%◌, ◌^◌, ◌<◌, ◌≤◌}
+use native.Mathlib.Nat.{zero-add, suc-add, add-suc, add-zero, add_comm, mul-one, mul-add, mul-suc, pow-suc, not-suc-le-zero, le_of_suc-le-suc, lt_of_lt_of_le, mod-one, mod-eq_of_lt, mul_comm, mul-le-mul_right, suc-mul}
 use native.Mathlib.Omega.{arith}
 use lib.Dec.{lit<}
 use lib.Pow.{pow-add, mod-pow-add, shr-shr, field, mod-mod-pow, high, low}
 use lib.Bits.{bit_xor, xor_shr, xor_mod}
-use lib.ListN.{length, get_or, take, drop, length-drop}
+use lib.ListN.{length, get_or, take, drop}
 use lib.Seq.{get_or-drop, drop-drop, drop-nil}
 use Rattle.octets.specs.Bytes.{number_from, number, bytes_of, padded, xor_bytes}
 
@@ -34,6 +34,13 @@ unfolding padded
 length_padded zero l = refl
 length_padded (suc k) [] = ap suc (length_padded k [])
 length_padded (suc k) (x ∷ l) = ap suc (length_padded k l)
+
+-- a string that is as long or longer
+pub padded_take : (k : ℕ) (l : List ℕ) → k ≤ length l → padded k l ≡ take k l
+unfolding padded
+padded_take zero l h = refl
+padded_take (suc k) [] h = absurd (not-suc-le-zero h)
+padded_take (suc k) (x ∷ l) h = ap (λ (t : List ℕ). x ∷ t) (padded_take k l (le_of_suc-le-suc h))
 
 -- a string that is as long already
 pub padded_whole : (k : ℕ) (l : List ℕ) → length l ≡ k → padded k l ≡ l
@@ -68,12 +75,6 @@ number_split s t k e = number_append 0 s t ∙ number_from_law (number_from 0 s)
 -- two words make a block
 pub number_words : (l : List ℕ) → number (padded 8 l) * 2 ^ 64 + number (padded 8 (drop 8 l)) ≡ number (padded 16 l)
 number_words l = sym (ap number (padded_split 8 8 l) ∙ number_split (padded 8 l) (padded 8 (drop 8 l)) 8 (length_padded 8 (drop 8 l)))
-
--- eight bytes, taken in pairs
-pub number_pairs : (a b c d e f g h : ℕ)
-    → ((a * 256 + b) * 65536 + (c * 256 + d)) * 4294967296 + ((e * 256 + f) * 65536 + (g * 256 + h)) ≡ number (a ∷ b ∷ c ∷ d ∷ e ∷ f ∷ g ∷ h ∷ [])
-unfolding number number_from
-number_pairs a b c d e f g h = omega arith
 
 pub eight : (l : List ℕ)
     → padded 8 l ≡ get_or l 0 0 ∷ get_or l 1 0 ∷ get_or l 2 0 ∷ get_or l 3 0 ∷ get_or l 4 0 ∷ get_or l 5 0 ∷ get_or l 6 0 ∷ get_or l 7 0 ∷ []
@@ -118,11 +119,6 @@ bytes_words h l hl =
     ∙ ap (λ (t : List ℕ). bytes_of 8 ((h * 2 ^ 64 + l) / 2 ^ 64) ++ t) (bytes_mod 0 8 (h * 2 ^ 64 + l))
     ∙ sym (bytes_split 8 8 (h * 2 ^ 64 + l))
 
-pub block_bytes : (h l : ℕ) → l < 2 ^ 64
-    → h / 0x100_0000_0000_0000 % 256 ∷ h / 0x1_0000_0000_0000 % 256 ∷ h / 0x100_0000_0000 % 256 ∷ h / 0x1_0000_0000 % 256 ∷ h / 0x100_0000 % 256 ∷ h / 0x1_0000 % 256 ∷ h / 0x100 % 256 ∷ h % 256 ∷ l / 0x100_0000_0000_0000 % 256 ∷ l / 0x1_0000_0000_0000 % 256 ∷ l / 0x100_0000_0000 % 256 ∷ l / 0x1_0000_0000 % 256 ∷ l / 0x100_0000 % 256 ∷ l / 0x1_0000 % 256 ∷ l / 0x100 % 256 ∷ l % 256 ∷ [] ≡ bytes_of 16 (h * 2 ^ 64 + l)
-unfolding bytes_of
-block_bytes h l hl = rw (div-one h, div-one l) at (bytes_words h l hl)
-
 -- a sum's bytes are the sums of the bytes
 pub bytes_xor : (k a b : ℕ) → bytes_of k (bit_xor a b) ≡ xor_bytes (bytes_of k a) (bytes_of k b)
 unfolding bytes_of xor_bytes
@@ -138,7 +134,7 @@ pub power : (k : ℕ) → 256 ^ k ≡ 2 ^ (8 * k)
 power zero = refl
 power (suc k) = pow-suc 256 k ∙ ap (λ (n : ℕ). n * 256) (power k) ∙ sym (ap (λ (n : ℕ). 2 ^ n) (mul-suc 8 k) ∙ pow-add 2 (8 * k) 8)
 
-number_cons : (x : ℕ) (s : List ℕ) → number (x ∷ s) ≡ x * 2 ^ (8 * length s) + number s
+pub number_cons : (x : ℕ) (s : List ℕ) → number (x ∷ s) ≡ x * 2 ^ (8 * length s) + number s
 unfolding number number_from
 number_cons x s = number_from_law (0 * 256 + x) s ∙ ap₂ (λ (a p : ℕ). a * p + number_from 0 s) (zero-add x) (power (length s))
 

@@ -6,6 +6,7 @@ pub mod Build
 pub mod XorLaws
 pub mod ByteLaws
 pub mod LittleLaws
+pub mod WidthLaws
 pub mod PartLaws
 pub mod CopyLaws
 pub mod SameLaws

@@ -10,7 +10,7 @@ use lib.Pow.{pow-add, mod-pow-add}
 use lib.ListN.{length, get_or, drop}
 use lib.Seq.{drop-nil}
 use native.Mathlib.Numerals.{add-one}
-use Rattle.octets.specs.Lists.{at, from, tab}
+use Rattle.octets.specs.Lists.{at, from}
 use Rattle.octets.specs.Bytes.{padded}
 use Rattle.octets.specs.Little.{little, little_bytes}
 use Rattle.octets.proofs.ByteLaws.{length_padded, padded_lt, padded_from, power}
@@ -70,11 +70,6 @@ pub from_padded : (k i : ℕ) (s : List ℕ) → from i k (at s) ≡ padded k (d
 unfolding padded
 from_padded zero i s = refl
 from_padded (suc k) i s = ap (λ (t : List ℕ). get_or s i 0 ∷ t) (from_padded k (suc i) s ∙ ap (λ (n : ℕ). padded k (drop n s)) (sym (add-one i))) ∙ sym (padded_from k i s)
-
-pub read_little : (k : ℕ) (s : List ℕ) {r : ℕ} → ((i : ℕ) → get_or s i 0 < 256) → r ≡ little (tab k (at s)) → (r ≡ little (padded k s)) × (little_bytes k r ≡ padded k s)
-read_little k s h e =
-    let p = e ∙ ap little (from_padded k 0 s) in
-    (p, ap (little_bytes k) p ∙ bytes_little_padded k s h)
 
 -- ---- parts of a padded string
 

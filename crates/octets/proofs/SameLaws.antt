@@ -7,8 +7,9 @@ use Prim.Native.Nat.{ℕ, zero, suc, ◌+◌, ◌<◌, ◌≤◌}
 use native.Mathlib.Numerals.{add-one}
 use native.Mathlib.Omega.{arith}
 use borrow.Author.Tests.{eq-eqb, ne_eqb, eqb-true, eqb-false}
-use lib.Bits.{bit_xor, bit_or, xor_self, or_add_and, and_le_r}
+use lib.Bits.{bit_xor, bit_or, xor_self}
 use lib.Dec.{eqb, eqb-suc-zero}
+use Rattle.std.proofs.lemmas.Nat.{le_or_l}
 use lib.ListN.{length, get_or, drop, drop_of_length-le}
 use lib.Seq.{drop-cons}
 use Rattle.octets.specs.Bytes.{same_bytes}
@@ -19,12 +20,9 @@ xor_test : (x y : ℕ) (b : Bool) → eqb x y ≡ b → eqb (bit_xor x y) 0 ≡ 
 xor_test x y true e = eq-eqb (bit_xor x y) 0 (ap (bit_xor x) (sym (eqb-true x y e)) ∙ xor_self x)
 xor_test x y false e = ne_eqb (bit_xor x y) 0 (λ z. eqb-false x y e (xor_none x y z))
 
-or_ge : (a b : ℕ) → a ≤ bit_or a b
-or_ge a b = omega (arith, or_add_and a b, and_le_r a b)
-
 or_test : (d x y : ℕ) → eqb (bit_or d (bit_xor x y)) 0 ≡ eqb d 0 && eqb x y
 or_test zero x y = xor_test x y (eqb x y) refl
-or_test (suc d) x y = ne_eqb (bit_or (suc d) (bit_xor x y)) 0 (λ z. omega (arith, or_ge (suc d) (bit_xor x y), z)) ∙ ap (λ (b : Bool). b && eqb x y) (sym (eqb-suc-zero d))
+or_test (suc d) x y = ne_eqb (bit_or (suc d) (bit_xor x y)) 0 (λ z. omega (arith, le_or_l (suc d) (bit_xor x y), z)) ∙ ap (λ (b : Bool). b && eqb x y) (sym (eqb-suc-zero d))
 
 -- a byte more of a comparison
 pub same_turn : (d i : ℕ) (s t : List ℕ) → i < length s → length s ≡ length t

@@ -1,2 +1,1 @@
--- PointLaws: what Point answers on each of its ways out.
-pub mod PointLaws
+-- The proofs are those of the functions.

@@ -9,38 +9,28 @@ use protocol::{Answer, POINTS, Point, Refusal, State, Store};
 
 // Point: a position. It refuses a collector that is not ready (1), a position not above the newest point (6), a ninth
 // point (7), and a position with an accepted record below it that is not visible (15).
-pub fn point(c: State, position: u64) -> Answer
+#[tactic(auto, using(journal::proofs::BeyondLaws::points_room), unfolding(protocol::specs::Point::point, protocol::specs::Point::pointed, protocol::specs::Point::point_at, protocol::specs::Said::refuse, protocol::specs::Said::shown_as, protocol::specs::Said::shown, protocol::specs::Said::number_of, protocol::specs::Said::values_of))]
+pub fn point(mut c: State, position: u64) -> Answer
     ensures { shown_as result [] ≡ point c position }
 {
-    let x = c.vault;
-    let phase = c.phase;
-    let due = c.due;
-    let j = c.journal;
-    let p = c.points;
-    let count = p.count;
-    if !state::ready(x, phase, due, j.count, count) {
+    if !state::ready(&c) {
         return state::refused(c, Refusal::Condition);
     }
-    let low = p.any & (position <= p.newest);
-    if low {
+    if c.points.any & (position <= c.points.newest) {
         return state::refused(c, Refusal::Position);
     }
-    if POINTS <= count {
+    if POINTS <= c.points.count {
         return state::refused(c, Refusal::Full);
     }
-    if journal::marks::unseen_below(j, x, position) {
+    if journal::marks::unseen_below(c.journal, c.vault, position) {
         return state::refused(c, Refusal::Unseen);
     }
-    let counts = journal::marks::counts_at(x, j, position);
-    let from = journal::marks::journal_from(j, position);
     let q = Point {
         position,
-        counts,
+        counts: journal::marks::counts_at(c.vault, c.journal, position),
         covered: false,
     };
-    let more = journal::points::points_more(p, q);
-    let mut next = c;
-    next.journal = from;
-    next.points = more;
-    state::taken(next, Store::Nothing, 0)
+    c.journal = journal::marks::journal_from(c.journal, position);
+    c.points = journal::points::points_more(c.points, q);
+    state::taken(c, Store::Nothing, 0)
 }

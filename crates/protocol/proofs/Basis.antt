@@ -1,7 +1,7 @@
 -- What the theorem takes from the layers below: the bytes of a record and of a file under the one key, what can be written as such, and that
 -- what was sealed opens to what was sealed. The proofs above use these laws and never the layouts or the cipher.
 -- Assumes nothing.
-use Prim.Native.Nat.{ℕ, ◌+◌, ◌-◌, ◌≤◌, ◌<◌}
+use Prim.Native.Nat.{ℕ, ◌+◌, ◌≤◌, ◌<◌}
 use mathlib.Core.Path.{◌≡◌, sym, ap, ◌∙◌}
 use mathlib.Core.Bool.{true}
 use mathlib.Core.List.{List, []}

@@ -25,7 +25,7 @@ use Rattle.protocol.specs.declared.TruncateStep.TheVariants as L
 use Rattle.protocol.specs.declared.RecoverStep.TheVariants as G
 use Rattle.protocol.specs.declared.RecoverNumber.TheVariants as M
 use Rattle.protocol.proofs.Basis.{file_of}
-use Rattle.protocol.proofs.Invariant.{Durable, cards_to, FileIn, Durably, HasNext, Raising, RecoverDue, Cutting, Recovering, Service, LinkedAt, Linked, LinkedIf, Apart, Invariant}
+use Rattle.protocol.proofs.Invariant.{Durable, cards_to, FileIn, Durably, HasNext, Raising, RecoverDue, Cutting, Service, LinkedAt, Linked, LinkedIf, Apart, Invariant}
 use Rattle.protocol.proofs.Apart.{mem_map, apart_still, apart_uncut}
 
 -- ---- the state

@@ -19,10 +19,11 @@
 -- (10) in service: its table is the whole book's; no R is above V; the listed records are the card's from the newest point on; a point's counts
 --      are what lies below it, they are visible, and a covered point's are in every file of version S (Serving); no record is begun.
 -- Assumes nothing.
-use Prim.Native.Nat.{ℕ, suc, ◌+◌, ◌-◌, ◌*◌, ◌≤◌, ◌<◌, pred}
+use Prim.Native.Nat.{ℕ, suc, ◌+◌, ◌*◌, ◌≤◌, ◌<◌, pred}
 use mathlib.Core.Path.{◌≡◌}
 use mathlib.Core.Bool.{Bool, true, false, cond}
 use mathlib.Core.Option.{Option, none, some}
+use Rattle.std.specs.Prelude.{Some}
 use mathlib.Core.List.{List, [], ◌∷◌, ◌++◌, map, Memᴰ}
 use lib.ListN.{length}
 use Rattle.octets.specs.Lists.{at}
@@ -324,7 +325,7 @@ pub record Holding (c : State) (d : Durable) : Type 0 where
 pub record Cutting (c : State) (d : Durable) (j position : ℕ) : Type 0 where
   pub stale : Stale c.vault.s d.files
   pub at_point : Point
-  pub found : find_point position (points_of c.points) ≡ some at_point
+  pub found : find_point position (points_of c.points) ≡ Some at_point
   pub covered : at_point.covered ≡ true
   pub did : (l : ℕ) → l < j → at c.vault.r l ≡ at at_point.counts l
   pub left : (l : ℕ) → j ≤ l → at c.vault.r l + cnt l d.spots ≡ at c.vault.w l

@@ -1,6 +1,6 @@
 -- Checkpoint keeps the invariant: its file has the whole book, so that once S is stored every point set before is in every file of version S.
 -- Assumes nothing.
-use Prim.Native.Nat.{ℕ, suc, ◌≤◌, ◌<◌}
+use Prim.Native.Nat.{ℕ, suc, ◌<◌}
 use mathlib.Core.Path.{◌≡◌, refl, sym, ap, subst, ◌∙◌}
 use mathlib.Core.Bool.{◌||◌}
 use mathlib.Core.Option.{none}
@@ -149,7 +149,7 @@ module _ (key : List ℕ) where
 
   keep_check : (c : State) (d : Durable) (room : ℕ) (du : Due) → Durably (At c d) → c.phase ≡ F.Serving → Service key c (At c d) du → GoodAnswer key (At c d) none (checkpoint_due c room du)
   unfolding checkpoint_due checkpoint_first raise_n
-  keep_check c d room D.Nothing i e s = good_refuse key _ none (leb counter_max c.vault.s || leb counter_max c.vault.n) c 8 [] _ (λ r. good_step key _ none c _ _ _ _ _ (λ _.
+  keep_check c d room D.Nothing i e s = good_refuse key _ none (leb counter_max c.vault.s || leb counter_max c.vault.n) c 8 [] _ (λ r. good_step key _ none c _ _ _ _ (λ _.
       (quiet, check_n c d i e s (leb-false counter_max c.vault.s (or_left (leb counter_max c.vault.s) (leb counter_max c.vault.n) r)) (leb-false counter_max c.vault.n (or_right (leb counter_max c.vault.s) (leb counter_max c.vault.n) r)))))
   keep_check c d room (D.Checkpoint step) i e s = keep_step c d room step i e s
   keep_check c d room D.Record i e s = tt

@@ -1,6 +1,6 @@
 -- Load, and the call by which Recover is accepted, keep the invariant: what opens was put out, so the reading comes to the whole book.
 -- Assumes nothing.
-use Prim.Native.Nat.{ℕ, ◌≤◌}
+use Prim.Native.Nat.{ℕ}
 use mathlib.Core.Path.{◌≡◌, refl, subst}
 use mathlib.Core.Bool.{Bool, true, false, cond, not}
 use mathlib.Core.Option.{Option, none, some}

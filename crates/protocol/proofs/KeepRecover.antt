@@ -1,6 +1,6 @@
 -- Each call that goes on with recovery's stores keeps the invariant.
 -- Assumes nothing.
-use Prim.Native.Nat.{ℕ, suc, ◌+◌, ◌-◌, ◌≤◌, ◌<◌, pred}
+use Prim.Native.Nat.{ℕ, suc, ◌+◌, ◌≤◌, ◌<◌, pred}
 use mathlib.Core.Path.{◌≡◌, refl, sym, ap, subst, ◌∙◌}
 use mathlib.Core.Bool.{Bool, true, false, cond}
 use mathlib.Core.Option.{Option, none}
@@ -53,10 +53,10 @@ module _ (key : List ℕ) where
   good_refuse d adds false c n vs a f = f refl
 
   -- the step of a vault number
-  pub good_step : (d : Durable) (adds : Option Opened) (c : State) (b : Bool) (x y : Vault) (du : Due) (st : Store) → (b ≡ false → GoodAnswer key d adds (taking (with_vault c y du) st [])) → GoodAnswer key d adds (stepped c (stands_if b x y du st))
-  unfolding stepped stands_if refuse
-  good_step d adds c true x y du st f = tt
-  good_step d adds c false x y du st f = f refl
+  pub good_step : (d : Durable) (adds : Option Opened) (c : State) (b : Bool) (y : Vault) (du : Due) (st : Store) → (b ≡ false → GoodAnswer key d adds (taking (with_vault c y du) st [])) → GoodAnswer key d adds (stepped c (stands_if b y du st))
+  unfolding stepped stands_if
+  good_step d adds c true y du st f = tt
+  good_step d adds c false y du st f = f refl
 
   link_rec : (c : State) (d : Durable) (x : Vault) (du : Due) → c.key ≡ key → c.phase ≡ F.Recovering → x ≡ d.vault → Full d.book c.table → RecoverDue x d du → Linked key (with_vault c x du) d
   link_rec c d x du k e s t r = record { same = s; rest = subst (λ (ph : Phase). LinkedAt key (with_vault c x du) d ph du) (sym e) (record { key_is = k; table = t; stored = r }) }
@@ -122,7 +122,7 @@ module _ (key : List ℕ) where
 
   keep_s : (c : State) (d : Durable) → Durably (At c d) → c.phase ≡ F.Recovering → (b : Bool) → Recovering key c (At c d) (D.Recover (G.Number (M.S b))) → GoodAnswer key (At c d) none (stepped c (recover_number c.vault (M.S b)))
   unfolding recover_number raise_s
-  keep_s c d i e b r = good_step _ none c _ _ _ _ _ (λ _. (
+  keep_s c d i e b r = good_step _ none c _ _ _ _ (λ _. (
     quiet,
     record {
       puts = tt;
@@ -136,7 +136,7 @@ module _ (key : List ℕ) where
 
   keep_n : (c : State) (d : Durable) → Durably (At c d) → c.phase ≡ F.Recovering → Recovering key c (At c d) (D.Recover (G.Number M.N)) → GoodAnswer key (At c d) none (stepped c (recover_number c.vault M.N))
   unfolding recover_number raise_n
-  keep_n c d i e r = let a = r.stored in good_step _ none c _ _ _ _ _ (λ _. (
+  keep_n c d i e r = let a = r.stored in good_step _ none c _ _ _ _ (λ _. (
     quiet,
     record {
       puts = tt;
@@ -167,7 +167,7 @@ module _ (key : List ℕ) where
       let lr : l < length c.vault.r = omega (arith, i.lanes.rlen) in
       let u = up_set c.vault.r l (at c.vault.w l) lr ln.gone in
       let i' = lanes_r l (at c.vault.w l) h (omega arith) (inr (omega arith)) i.lanes in
-      good_step _ none c _ _ _ _ _ (λ _. (
+      good_step _ none c _ _ _ _ (λ _. (
         quiet,
         record {
           puts = tt;
@@ -187,7 +187,7 @@ module _ (key : List ℕ) where
   keep_e c d i e r =
       let a = r.stored in
       let ev = even_all c.vault.r c.vault.w i.lanes.rlen i.lanes.wlen a.r_is_w in
-      good_step _ none c _ _ _ _ _ (λ _. (
+      good_step _ none c _ _ _ _ (λ _. (
         quiet,
         record {
           puts = tt;
@@ -224,7 +224,7 @@ module _ (key : List ℕ) where
       let u = up_set c.vault.v l (at c.vault.w l) lv ln.seen in
       let i' = lanes_v l (at c.vault.w l) h (omega arith) (inr (let z = ev l in omega arith)) i.lanes in
       let f : (k : ℕ) → at x.v k ≤ at x.r k = λ k. let b = (i'.lane k).seen in let z = ev k in omega arith in
-      good_step _ none c _ _ _ _ _ (λ _. (
+      good_step _ none c _ _ _ _ (λ _. (
         quiet,
         record {
           puts = tt;

@@ -1,9 +1,10 @@
 -- Truncate keeps the invariant: a covered point's counts are in every file of version S, so that R may rise to them.
 -- Assumes nothing.
-use Prim.Native.Nat.{ℕ, suc, ◌+◌, ◌-◌, ◌*◌, ◌≤◌, ◌<◌, pred}
+use Prim.Native.Nat.{ℕ, suc, ◌+◌, ◌*◌, ◌≤◌, ◌<◌, pred}
 use mathlib.Core.Path.{◌≡◌, refl, sym, ap, subst, ◌∙◌}
 use mathlib.Core.Bool.{Bool, true, false, cond, not}
-use mathlib.Core.Option.{Option, none, some}
+use mathlib.Core.Option.{none}
+use Rattle.std.specs.Prelude.{Option, Some, None}
 use mathlib.Core.Logic.{◌⊎◌, inl, inr}
 use mathlib.Core.List.Memᴰ
 use mathlib.Core.List.{List, [], ◌∷◌, ◌++◌, map, Memᴰ}
@@ -37,12 +38,12 @@ use Rattle.protocol.proofs.KeepRecover.{good_refuse, good_step}
 use Rattle.protocol.proofs.Phases.{card_of, link_serving, when_serving}
 
 -- what find_point found
-pub found_in : (pos : ℕ) (ps : List Point) (p : Point) → find_point pos ps ≡ some p → Memᴰ p ps × (p.position ≡ pos)
+pub found_in : (pos : ℕ) (ps : List Point) (p : Point) → find_point pos ps ≡ Some p → Memᴰ p ps × (p.position ≡ pos)
 unfolding find_point
 found_in pos [] p e = let z : ◌≡◌ {A = ℕ} 0 1 = cc in absurd (omega arith)
 found_in pos (q ∷ ps) p e = go (eqb q.position pos) refl e (λ k. found_in pos ps p k)
   where
-    go : (b : Bool) → eqb q.position pos ≡ b → cond b (some q) (find_point pos ps) ≡ some p → (find_point pos ps ≡ some p → Memᴰ p ps × (p.position ≡ pos)) → Memᴰ p (q ∷ ps) × (p.position ≡ pos)
+    go : (b : Bool) → eqb q.position pos ≡ b → cond b (Some q) (find_point pos ps) ≡ Some p → (find_point pos ps ≡ Some p → Memᴰ p ps × (p.position ≡ pos)) → Memᴰ p (q ∷ ps) × (p.position ≡ pos)
     go true t e ih = let z : p ≡ q = cc in (Memᴰ.head z, ap (λ (x : Point). x.position) z ∙ eqb-true q.position pos t)
     go false t e ih = let a = ih e in (Memᴰ.tail a.0, a.1)
 
@@ -154,7 +155,7 @@ module _ (key : List ℕ) where
       record { key_is = ky; arrays = ar; table = t; clean = cl; common = sv; stored = subst (λ (x : ℕ). Cutting c d x pos) y k }
 
   lane_good : (c : State) (d : Durable) (pos j : ℕ) (p : Point) → Durably (At c d) → c.phase ≡ F.Serving → ServingAt c d d.spots
-      → (c.key ≡ key) → Arrays c.journal c.points → Full d.book c.table → d.begun ≡ none → Cutting c (At c d) j pos → find_point pos (points_of c.points) ≡ some p → j < lanes
+      → (c.key ≡ key) → Arrays c.journal c.points → Full d.book c.table → d.begun ≡ none → Cutting c (At c d) j pos → find_point pos (points_of c.points) ≡ Some p → j < lanes
       → Good key (with_vault c (set_r c.vault j (at p.counts j)) (after_truncate_r j pos)) (S.R j (at p.counts j)) [] none (At c d) quiet
   unfolding after_truncate_r
   lane_good c d pos j p i e sv ky ar t cl k fp h =
@@ -253,21 +254,21 @@ module _ (key : List ℕ) where
           let b : at c.vault.w l ≡ 0 = get_or-eq_default c.vault.w 0 (let z : length c.vault.w ≤ l = omega (arith, i.lanes.wlen) in z) in omega arith
 
   keep_lane : (c : State) (d : Durable) (pos j : ℕ) (p : Point) → Durably (At c d) → c.phase ≡ F.Serving → ServingAt c d d.spots → c.key ≡ key → Arrays c.journal c.points → Full d.book c.table → d.begun ≡ none
-      → find_point pos (points_of c.points) ≡ some p → Cutting c (At c d) j pos → GoodAnswer key (At c d) none (truncate_lane c pos j p)
+      → find_point pos (points_of c.points) ≡ Some p → Cutting c (At c d) j pos → GoodAnswer key (At c d) none (truncate_lane c pos j p)
   unfolding truncate_lane put_r
-  keep_lane c d pos j p i e sv ky ar t cl f k = good_step key _ none c (leb lanes j) _ _ _ _ (λ r. (quiet, lane_good c d pos j p i e sv ky ar t cl k f (leb-false lanes j r)))
+  keep_lane c d pos j p i e sv ky ar t cl f k = good_step key _ none c (leb lanes j) _ _ _ (λ r. (quiet, lane_good c d pos j p i e sv ky ar t cl k f (leb-false lanes j r)))
 
   keep_first : (c : State) (d : Durable) (pos : ℕ) (o : Option Point) → Durably (At c d) → c.phase ≡ F.Serving → Service key c (At c d) D.Nothing → find_point pos (points_of c.points) ≡ o → GoodAnswer key (At c d) none (truncate_first c pos o)
   unfolding truncate_first
-  keep_first c d pos none i e s f = tt
-  keep_first c d pos (some p) i e s f = good_refuse key _ none _ c 14 [] _ (λ r. let cv = is_covered p r in
+  keep_first c d pos None i e s f = tt
+  keep_first c d pos (Some p) i e s f = good_refuse key _ none _ c 14 [] _ (λ r. let cv = is_covered p r in
       keep_lane c d pos 0 p i e s.common s.key_is s.arrays s.table s.clean f
       (record { stale = s.stored.0; at_point = p; found = f; covered = cv; did = λ l lt. absurd (omega arith); left = λ l ge. s.stored.1 l }))
 
   keep_next : (c : State) (d : Durable) (pos lane : ℕ) (o : Option Point) → Durably (At c d) → c.phase ≡ F.Serving → Service key c (At c d) (D.Truncate pos (L.R lane)) → find_point pos (points_of c.points) ≡ o → GoodAnswer key (At c d) none (truncate_next c pos lane o)
   unfolding truncate_next
-  keep_next c d pos lane none i e s f = tt
-  keep_next c d pos lane (some p) i e s f = keep_lane c d pos lane p i e s.common s.key_is s.arrays s.table s.clean f s.stored
+  keep_next c d pos lane None i e s f = tt
+  keep_next c d pos lane (Some p) i e s f = keep_lane c d pos lane p i e s.common s.key_is s.arrays s.table s.clean f s.stored
 
   keep_step : (c : State) (d : Durable) (pos : ℕ) (step : TruncateStep) → Durably (At c d) → c.phase ≡ F.Serving → Service key c (At c d) (D.Truncate pos step) → GoodAnswer key (At c d) none (truncate_step c pos step)
   unfolding truncate_step truncate_delete

@@ -22,7 +22,7 @@ use Rattle.table.specs.declared.Table.{Table}
 use Rattle.table.specs.Order.{later, latest}
 use Rattle.table.specs.Table.{no_entry, entry_for, empty_table}
 use Rattle.table.specs.Written.{newest}
-use Rattle.table.specs.Canonical.{present, CanonicalTable}
+use Rattle.table.specs.Canonical.{CanonicalTable}
 use Rattle.table.proofs.OrderLaws.{later_irrefl, not_later_trans, latest_either, latest_absent, latest_top}
 use Rattle.table.proofs.EnteredLaws.{length_entered, entered_at, written_times, entered_canonical, empty_at, empty_canonical}
 use Rattle.sealed.specs.Record.{Opened}

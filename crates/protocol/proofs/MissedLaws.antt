@@ -4,7 +4,8 @@
 use Prim.Native.Nat.{ℕ, suc, ◌≤◌, ◌<◌}
 use mathlib.Core.Path.{◌≡◌, refl, sym, ap, ◌∙◌}
 use mathlib.Core.Bool.{true, false}
-use mathlib.Core.Option.{Option, some, none}
+use mathlib.Core.Option.{some}
+use Rattle.std.specs.Prelude.{Option, Some, None}
 use mathlib.Core.List.Memᴰ
 use mathlib.Core.List.{List, [], ◌∷◌, Memᴰ}
 use native.Mathlib.Omega.{arith}
@@ -87,8 +88,8 @@ missed_is_13 a x t log g e lane inside h ne = go (missing_from lanes 0 x g.last)
   where
     go : (o : Option ℕ) → missing_from lanes 0 x g.last ≡ o
         → (lowest : ℕ) × (lowest ≤ lane) × ((l : ℕ) → l < lowest → Reached x g.last l) × (replay a x t log ≡ stopped 13 (lowest ∷ []))
-    go none q = absurd (ne (none_missing x g.last q lane inside h))
-    go (some m) q = (m, most (dec_le m lane), below_missing x g.last m q, rw (e, q))
+    go None q = absurd (ne (none_missing x g.last q lane inside h))
+    go (Some m) q = (m, most (dec_le m lane), below_missing x g.last m q, rw (e, q))
       where
         most : Dec (m ≤ lane) → m ≤ lane
         most (yes p) = p

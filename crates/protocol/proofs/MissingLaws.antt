@@ -5,7 +5,7 @@ use Prim.Native.Nat.{ℕ, zero, suc, ◌+◌, ◌≤◌, ◌<◌}
 use mathlib.Core.Path.{◌≡◌, refl, ap, subst}
 use mathlib.Core.Bool.{Bool, true, false, cond, not, ◌&&◌}
 use mathlib.Core.List.{List}
-use mathlib.Core.Option.{Option, some, none}
+use Rattle.std.specs.Prelude.{Option, Some, None}
 use mathlib.Core.Logic.{◌⊎◌, inl, inr}
 use native.Mathlib.Nat.{eq-or-lt_of_le}
 use native.Mathlib.Omega.{arith}
@@ -46,39 +46,39 @@ module _ (x : Vault) (last : List ℕ) where
   here_or_above lane l s k (inl q) = subst Reached q (short_reached lane s)
   here_or_above lane l s k (inr q) = k q
 
-  none_by : (n lane : ℕ) → ((l : ℕ) → lane ≤ l → l < lane + n → Reached l) → missing_from n lane x last ≡ none
+  none_by : (n lane : ℕ) → ((l : ℕ) → lane ≤ l → l < lane + n → Reached l) → missing_from n lane x last ≡ None
   unfolding missing_from short
   none_by zero lane h = refl
   none_by (suc n) lane h = rw (reached_short lane (h lane (omega arith) (omega arith))) (none_by n (suc lane) (λ l a b. h l (omega arith) (omega arith)))
 
-  by_none : (n lane : ℕ) → missing_from n lane x last ≡ none → (l : ℕ) → lane ≤ l → l < lane + n → Reached l
+  by_none : (n lane : ℕ) → missing_from n lane x last ≡ None → (l : ℕ) → lane ≤ l → l < lane + n → Reached l
   unfolding missing_from short
   by_none zero lane e l a b = absurd (omega arith)
   by_none (suc n) lane e l a b = go (short lane) refl e (λ f c. by_none n (suc lane) f l c (omega arith))
     where
-      go : (b : Bool) → short lane ≡ b → cond b (some lane) (missing_from n (suc lane) x last) ≡ none → (missing_from n (suc lane) x last ≡ none → suc lane ≤ l → Reached l) → Reached l
+      go : (b : Bool) → short lane ≡ b → cond b (Some lane) (missing_from n (suc lane) x last) ≡ None → (missing_from n (suc lane) x last ≡ None → suc lane ≤ l → Reached l) → Reached l
       go true s f k = let z : ◌≡◌ {A = ℕ} 0 1 = cc in absurd (omega arith)
       go false s f k = here_or_above lane l s (k f) (eq-or-lt_of_le a)
 
-  by_some : (n lane m : ℕ) → missing_from n lane x last ≡ some m → (l : ℕ) → lane ≤ l → l < m → Reached l
+  by_some : (n lane m : ℕ) → missing_from n lane x last ≡ Some m → (l : ℕ) → lane ≤ l → l < m → Reached l
   unfolding missing_from short
   by_some zero lane m e l a b = let z : ◌≡◌ {A = ℕ} 0 1 = cc in absurd (omega arith)
   by_some (suc n) lane m e l a b = go (short lane) refl e (λ f c. by_some n (suc lane) m f l c b)
     where
-      go : (b : Bool) → short lane ≡ b → cond b (some lane) (missing_from n (suc lane) x last) ≡ some m → (missing_from n (suc lane) x last ≡ some m → suc lane ≤ l → Reached l) → Reached l
+      go : (b : Bool) → short lane ≡ b → cond b (Some lane) (missing_from n (suc lane) x last) ≡ Some m → (missing_from n (suc lane) x last ≡ Some m → suc lane ≤ l → Reached l) → Reached l
       go true s f k = let z : lane ≡ m = cc in absurd (omega arith)
       go false s f k = here_or_above lane l s (k f) (eq-or-lt_of_le a)
 
   -- where all lanes have reached V, none is missing
-  missing_none : ((l : ℕ) → l < lanes → Reached l) → missing_from lanes 0 x last ≡ none
+  missing_none : ((l : ℕ) → l < lanes → Reached l) → missing_from lanes 0 x last ≡ None
   missing_none h = none_by lanes 0 (λ l a b. h l (omega arith))
 
   -- and where none is missing, all have
-  pub none_missing : missing_from lanes 0 x last ≡ none → (l : ℕ) → l < lanes → Reached l
+  pub none_missing : missing_from lanes 0 x last ≡ None → (l : ℕ) → l < lanes → Reached l
   none_missing e l h = by_none lanes 0 e l (omega arith) (omega arith)
 
   -- where one is, all below it have
-  pub below_missing : (m : ℕ) → missing_from lanes 0 x last ≡ some m → (l : ℕ) → l < m → Reached l
+  pub below_missing : (m : ℕ) → missing_from lanes 0 x last ≡ Some m → (l : ℕ) → l < m → Reached l
   below_missing m e l h = by_some lanes 0 m e l (omega arith) h
 
 -- where each lane has reached V the reading stands
@@ -92,5 +92,5 @@ unfolding ended or_missing
 ends_reached x f g e = go (missing_from lanes 0 x f.last) refl e
   where
     go : (o : Option ℕ) → missing_from lanes 0 x f.last ≡ o → or_missing o (reading f) ≡ reading g → (f ≡ g) × ((l : ℕ) → l < lanes → Reached x f.last l)
-    go none q e = (cc, none_missing x f.last q)
-    go (some l) q e = let z : ◌≡◌ {A = ℕ} 0 1 = cc in absurd (omega arith)
+    go None q e = (cc, none_missing x f.last q)
+    go (Some l) q e = let z : ◌≡◌ {A = ℕ} 0 1 = cc in absurd (omega arith)

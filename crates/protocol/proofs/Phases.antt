@@ -1,8 +1,8 @@
 -- The tie of a state in service.
 -- Assumes nothing.
 use Prim.Native.Nat.{ℕ, ◌+◌, ◌*◌, ◌≤◌}
-use mathlib.Core.Path.{◌≡◌, refl, sym, subst, subst₂, ◌∙◌}
-use mathlib.Core.Bool.{true, false, not, ◌&&◌}
+use mathlib.Core.Path.{◌≡◌, sym, subst, subst₂, ◌∙◌}
+use mathlib.Core.Bool.{false, not, ◌&&◌}
 use mathlib.Core.Option.{Option, none}
 use mathlib.Core.List.{List}
 use native.Mathlib.Omega.{arith}
@@ -10,17 +10,14 @@ use borrow.Author.Tests.{not-false}
 use lib.ListN.{length}
 use Rattle.octets.specs.Lists.{at}
 use Rattle.octets.proofs.BoolLaws.{and_left, and_right}
-use Rattle.table.proofs.OrderLaws.{clash}
 use Rattle.sealed.specs.Record.{Opened}
 use Rattle.sealed.specs.Checkpoint.{OpenedFile}
 use Rattle.protocol.specs.States.{valid, serving, is_nothing, ready, listed, points_max}
-use Rattle.protocol.specs.Accept.{is_record}
 use Rattle.protocol.specs.Point.{Mark}
 use Rattle.protocol.specs.declared.Point.{Point}
 use Rattle.protocol.specs.declared.State.{State}
 use Rattle.protocol.specs.declared.Phase.{Phase}
 use Rattle.protocol.specs.declared.Phase.TheVariants as F
-use Rattle.protocol.specs.declared.Due.{Due}
 use Rattle.protocol.specs.declared.Due.TheVariants as D
 use Rattle.protocol.proofs.DueLaws.{is_nothing_law, is_serving}
 use Rattle.protocol.proofs.Latest.{In}

@@ -1,6 +1,6 @@
 -- Every list keeps the invariants: a new vault has them, and each event keeps them.
 -- Assumes nothing.
-use Prim.Native.Nat.{ℕ, ◌-◌, ◌≤◌, ◌<◌}
+use Prim.Native.Nat.{ℕ, ◌≤◌, ◌<◌}
 use mathlib.Core.Path.{◌≡◌, refl, sym, subst, ◌∙◌}
 use mathlib.Core.Bool.{true, false}
 use mathlib.Core.Option.{Option, none, some}
@@ -25,7 +25,7 @@ use Rattle.protocol.specs.declared.State.{State}
 use Rattle.protocol.specs.declared.Phase.{Phase}
 use Rattle.protocol.specs.declared.Phase.TheVariants as F
 use Rattle.protocol.proofs.Latest.{upto_empty}
-use Rattle.protocol.proofs.Invariant.{Durable, vault_to, known, carried, cut_short, booked_to, Durably, Cold, LinkedAt, Linked, LinkedIf, Known, Apart, Invariant, GoodSaid, GoodAnswer, At}
+use Rattle.protocol.proofs.Invariant.{Durable, vault_to, known, carried, cut_short, booked_to, Durably, LinkedAt, Linked, LinkedIf, Known, Apart, Invariant, GoodSaid, GoodAnswer, At}
 use Rattle.protocol.proofs.KeepRecover.{good_refuse, keep_due}
 use Rattle.protocol.proofs.KeepCold.{keep_load, keep_cold, TrustedLog, TrustedFile}
 use Rattle.protocol.proofs.KeepAccept.{keep_accept, keep_seal, keep_commit}

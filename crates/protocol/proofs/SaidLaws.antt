@@ -4,12 +4,12 @@ use Prim.Native.Nat.{ℕ}
 use mathlib.Core.Path.{◌≡◌, refl, sym, ap, ◌∙◌}
 use mathlib.Core.List.{List, [], ◌∷◌}
 use lib.ListN.{get_or}
+use Rattle.std.specs.Prelude.{Result, Ok, Err}
 use Rattle.octets.specs.Lists.{at, put_over}
 use Rattle.protocol.specs.Said.{Said, refused, taken, Told, number_of, values_of, shown}
 use Rattle.protocol.specs.declared.Refusal.{Refusal}
 use Rattle.protocol.specs.declared.Refusal.TheVariants as R
-use Rattle.protocol.specs.declared.Outcome.{Outcome}
-use Rattle.protocol.specs.declared.Outcome.TheVariants as O
+use Rattle.protocol.specs.declared.Taken.{Taken}
 
 -- the refusal that has a number and a value
 abbrev refusals : ℕ → List Refusal
@@ -38,17 +38,17 @@ refusal_back (R.Missing l) = refl
 refusal_back R.Point = refl
 refusal_back R.Unseen = refl
 
-unfoldable outcome_of : Said → Outcome
-outcome_of (refused n vs) = O.Refused (refusal_of n vs)
-outcome_of (taken st n) = O.Taken st n
+unfoldable outcome_of : Said → Result Taken Refusal
+outcome_of (refused n vs) = Err (refusal_of n vs)
+outcome_of (taken st n) = Ok (record { store = st; len = n })
 
-outcome_back : (o : Outcome) → outcome_of (shown o) ≡ o
+outcome_back : (o : Result Taken Refusal) → outcome_of (shown o) ≡ o
 unfolding outcome_of shown
-outcome_back (O.Taken st n) = refl
-outcome_back (O.Refused w) = ap O.Refused (refusal_back w)
+outcome_back (Ok t) = refl
+outcome_back (Err w) = ap Err (refusal_back w)
 
 -- answers that show the same are the same
-pub shown_same : (a b : Outcome) → shown a ≡ shown b → a ≡ b
+pub shown_same : (a b : Result Taken Refusal) → shown a ≡ shown b → a ≡ b
 shown_same a b e = sym (outcome_back a) ∙ ap outcome_of e ∙ outcome_back b
 
 -- of a function that takes no state: what is said, and what is left of the lent buffer

@@ -6,6 +6,7 @@ use Prim.Native.Nat.{ℕ, suc, ◌+◌, ◌-◌, ◌≤◌, ◌<◌, pred}
 use mathlib.Core.Path.{◌≡◌, refl, sym, ap, ap₂, subst, subst₂, ◌∙◌}
 use mathlib.Core.Bool.{Bool, true, false, cond, ◌||◌}
 use mathlib.Core.Option.{Option, some}
+use Rattle.std.specs.Prelude.{Some}
 use mathlib.Core.List.{List, [], ◌∷◌, ◌++◌, map, Memᴰ}
 use native.Mathlib.Omega.{arith}
 use lib.Dec.{leb, ltb, eqb}
@@ -85,14 +86,14 @@ dropped c position d a k =
 -- ---- Checkpoint
 
 -- the point that was found is found again
-found_covered : (position : ℕ) (ps : List Point) (p : Point) → find_point position ps ≡ some p → find_point position (map covered_point ps) ≡ some (covered_point p)
+found_covered : (position : ℕ) (ps : List Point) (p : Point) → find_point position ps ≡ Some p → find_point position (map covered_point ps) ≡ Some (covered_point p)
 unfolding find_point covered_point
 found_covered position [] p e = let z : ◌≡◌ {A = ℕ} 0 1 = cc in absurd (omega arith)
 found_covered position (q ∷ ps) p e = by (eqb q.position position) (found_covered position ps p) e
   where
-    by : (b : Bool) → (find_point position ps ≡ some p → find_point position (map covered_point ps) ≡ some (covered_point p)) → cond b (some q) (find_point position ps) ≡ some p
-        → cond b (some (covered_point q)) (find_point position (map covered_point ps)) ≡ some (covered_point p)
-    by true later e = let z : q ≡ p = cc in ap (λ (x : Point). some (covered_point x)) z
+    by : (b : Bool) → (find_point position ps ≡ Some p → find_point position (map covered_point ps) ≡ Some (covered_point p)) → cond b (Some q) (find_point position ps) ≡ Some p
+        → cond b (Some (covered_point q)) (find_point position (map covered_point ps)) ≡ Some (covered_point p)
+    by true later e = let z : q ≡ p = cc in ap (λ (x : Point). Some (covered_point x)) z
     by false later e = later e
 
 -- the state behind the three stores

@@ -5,6 +5,8 @@ use mathlib.Core.Path.{◌≡◌, refl}
 use mathlib.Core.Bool.{Bool, true, false, cond, ◌&&◌}
 use mathlib.Core.List.{List}
 use mathlib.Core.Option.{Option, some, none}
+use Rattle.std.specs.Prelude as Code
+use Rattle.std.specs.Prelude.{Some, None}
 use lib.Dec.{leb, eqb}
 use lib.ListN.{length}
 use Rattle.table.specs.declared.Table.{Table}
@@ -55,10 +57,10 @@ module _ (a : Aead) (x : Vault) where
   steps_read log zero r h = h
   steps_read log (suc n) r h = steps_read log n _ (on_read log r h)
 
-  missing_read : (o : Option ℕ) (r : Read) → ReadNumbered r → ReadNumbered (or_missing o r)
+  missing_read : (o : Code.Option ℕ) (r : Read) → ReadNumbered r → ReadNumbered (or_missing o r)
   unfolding or_missing read_by
-  missing_read none r h = h
-  missing_read (some lane) r h = record { by = refl }
+  missing_read None r h = h
+  missing_read (Some lane) r h = record { by = refl }
 
   ended_read : (r : Read) → ReadNumbered r → ReadNumbered (ended x r)
   unfolding ended

@@ -7,6 +7,7 @@ use mathlib.Core.Path.{◌≡◌, refl, sym, ap, ap₂, ◌∙◌, subst}
 use mathlib.Core.Bool.{Bool, true, false, cond, not}
 use mathlib.Core.List.{List, [], ◌∷◌, ◌++◌}
 use mathlib.Core.Option.{Option, some}
+use Rattle.std.specs.Prelude.{Some}
 use native.Mathlib.Omega.{arith}
 use lib.Dec.{eqb}
 use lib.ListN.{length}
@@ -259,16 +260,16 @@ pub record Cut (c : State) (position : ℕ) (d : State) : Type 0 where
   pub rest : Unchanged c d
 
 -- the point that is found is at the position
-found_at : (position : ℕ) (ps : List Point) (p : Point) → find_point position ps ≡ some p → p.position ≡ position
+found_at : (position : ℕ) (ps : List Point) (p : Point) → find_point position ps ≡ Some p → p.position ≡ position
 unfolding find_point
 found_at position [] p e = let z : ◌≡◌ {A = ℕ} 0 1 = cc in absurd (omega arith)
 found_at position (q ∷ ps) p e = by (eqb q.position position) refl (found_at position ps p) e
   where
-    by : (b : Bool) → eqb q.position position ≡ b → (find_point position ps ≡ some p → p.position ≡ position) → cond b (some q) (find_point position ps) ≡ some p → p.position ≡ position
+    by : (b : Bool) → eqb q.position position ≡ b → (find_point position ps ≡ Some p → p.position ≡ position) → cond b (Some q) (find_point position ps) ≡ Some p → p.position ≡ position
     by true h later e = let k = eqb-true q.position position h in cc
     by false h later e = later e
 
-module _ (c : State) (position : ℕ) (p : Point) (found : find_point position (points_of c.points) ≡ some p) (serves : c.phase ≡ F.Serving)
+module _ (c : State) (position : ℕ) (p : Point) (found : find_point position (points_of c.points) ≡ Some p) (serves : c.phase ≡ F.Serving)
     (listing : c.journal.count ≤ listed) (pointing : c.points.count ≤ points_max) where
   abbrev cut : State → Answered
   cut d = truncate d position
@@ -315,7 +316,7 @@ module _ (c : State) (position : ℕ) (p : Point) (found : find_point position (
 -- "stores R of lanes 0 to 7 from the point's counts, then deletion of records below it. That point and older ones are dropped": nine calls at a
 -- covered point whose numbers are all visible
 pub truncate_tally : (c : State) (position : ℕ) (p : Point) → valid c ≡ true → c.phase ≡ F.Serving → c.due ≡ D.Nothing
-    → find_point position (points_of c.points) ≡ some p → p.covered ≡ true → ((l : ℕ) → l < lanes → at p.counts l ≤ at c.vault.v l)
+    → find_point position (points_of c.points) ≡ Some p → p.covered ≡ true → ((l : ℕ) → l < lanes → at p.counts l ≤ at c.vault.v l)
     → Names (λ d. truncate d position) c (truncate_stores p) (Cut c position)
 unfolding truncate_stores from_lane
 truncate_tally c position p ok serves idle found covered below =

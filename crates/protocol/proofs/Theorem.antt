@@ -1,6 +1,6 @@
 -- Demand 3: since every list keeps the invariants, the table of an accepted recovery is the book's, and a faithful card is taken.
 -- Assumes nothing.
-use Prim.Native.Nat.{ℕ, zero, suc, ◌+◌, ◌-◌, ◌≤◌, ◌<◌, ◌*◌}
+use Prim.Native.Nat.{ℕ, zero, suc, ◌+◌, ◌≤◌, ◌<◌, ◌*◌}
 use mathlib.Core.Path.{◌≡◌, refl, sym, ap, ap₂, subst, ◌∙◌}
 use mathlib.Core.Bool.{Bool, true, false, cond, ◌&&◌}
 use mathlib.Core.Option.{Option, none, some}
@@ -14,7 +14,7 @@ use lib.Seq.{take-nil, take_all}
 use borrow.Author.Tests.{le-leb, le-ltb, eq-eqb, ne_eqb}
 use Rattle.octets.proofs.EveryLaws.{and_both}
 use Rattle.transaction.specs.Transaction.{max_text}
-use Rattle.table.specs.Table.{lanes, empty_table}
+use Rattle.table.specs.Table.{empty_table}
 use Rattle.table.proofs.OrderLaws.{clash}
 use Rattle.table.specs.declared.Entry.{Entry}
 use Rattle.table.specs.declared.Table.{Table}
@@ -47,7 +47,7 @@ use Rattle.protocol.proofs.BookLaws.{full_latest, latest_one}
 use Rattle.protocol.proofs.LaidLaws.{laid_out, laid_length, records_laid, records_begun, records_one}
 use Rattle.protocol.proofs.Card.{Spot, recs_of, mem_recs}
 use Rattle.protocol.proofs.Faith.{read_faithful}
-use Rattle.protocol.proofs.Invariant.{Durable, vault_to, begun_count, Durably, Cold, LinkedAt, Linked, LinkedIf, Apart, Invariant, known, At}
+use Rattle.protocol.proofs.Invariant.{Durable, vault_to, begun_count, Durably, Cold, LinkedAt, Linked, LinkedIf, Apart, Invariant, At}
 use Rattle.protocol.proofs.TallyLaws.{recovery_tally}
 use Rattle.protocol.proofs.ServiceLaws.{vault_ok_law, accepts, seals, commits, points, keeps, counts, nine, three}
 use Rattle.protocol.proofs.Apart.{mem_map, map_mem, faithful_log_law}

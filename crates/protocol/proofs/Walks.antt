@@ -6,6 +6,8 @@ use mathlib.Core.Path.{◌≡◌, refl, sym}
 use mathlib.Core.Bool.{Bool, true, false, cond, not, ◌&&◌}
 use mathlib.Core.List.{List, [], ◌∷◌}
 use mathlib.Core.Option.{Option, some, none}
+use Rattle.std.specs.Prelude as Code
+use Rattle.std.specs.Prelude.{Some, None}
 use native.Mathlib.Omega.{arith}
 use lib.Dec.{leb}
 use borrow.Author.Tests.{leb-false, not-false}
@@ -87,10 +89,10 @@ module _ (P : Answered → Type 0) (c : State) (down : (n : ℕ) (vs : List ℕ)
 
   -- the longer operations: a store that leaves all but the vault's numbers and the due store, or the last one
   module _ (stored : (x : Vault) (d : Due) (st : Store) (out : List ℕ) → P (taking (with_vault c x d) st out)) where
-    step : (b : Bool) (x y : Vault) (d : Due) (st : Store) → P (stepped c (stands_if b x y d st))
-    unfolding stepped stands_if refuse
-    step true x y d st = down 1 [] refl
-    step false x y d st = stored y d st []
+    step : (b : Bool) (y : Vault) (d : Due) (st : Store) → P (stepped c (stands_if b y d st))
+    unfolding stepped stands_if
+    step true y d st = down 1 [] refl
+    step false y d st = stored y d st []
 
     file_step_law : (room : ℕ) (d : Due) → P (file_step c room d)
     unfolding file_step
@@ -98,7 +100,7 @@ module _ (P : Answered → Type 0) (c : State) (down : (n : ℕ) (vs : List ℕ)
 
     checkpoint_due_law : (room : ℕ) (d : Due) → P (taking (checkpointed c) (S.S (suc c.vault.s)) []) → P (checkpoint_due c room d)
     unfolding checkpoint_due checkpoint_first checkpoint_step checkpoint_last raise_n
-    checkpoint_due_law room D.Nothing h = past _ 8 [] _ refl (λ s. step _ _ _ _ _)
+    checkpoint_due_law room D.Nothing h = past _ 8 [] _ refl (λ s. step _ _ _ _)
     checkpoint_due_law room (D.Checkpoint K.File) h = file_step_law room _
     checkpoint_due_law room (D.Checkpoint K.Version) h = past _ 1 [] _ refl (λ s. h)
     checkpoint_due_law room D.Record h = down 1 [] refl
@@ -111,17 +113,17 @@ module _ (P : Answered → Type 0) (c : State) (down : (n : ℕ) (vs : List ℕ)
 
     lane_r : (position lane : ℕ) (p : Point) → P (truncate_lane c position lane p)
     unfolding truncate_lane put_r
-    lane_r position lane p = step _ _ _ _ _
+    lane_r position lane p = step _ _ _ _
 
-    truncate_first_law : (position : ℕ) (o : Option Point) → P (truncate_first c position o)
+    truncate_first_law : (position : ℕ) (o : Code.Option Point) → P (truncate_first c position o)
     unfolding truncate_first
-    truncate_first_law position none = down 14 [] refl
-    truncate_first_law position (some p) = past _ 14 [] _ refl (λ u. lane_r position 0 p)
+    truncate_first_law position None = down 14 [] refl
+    truncate_first_law position (Some p) = past _ 14 [] _ refl (λ u. lane_r position 0 p)
 
-    truncate_next_law : (position lane : ℕ) (o : Option Point) → P (truncate_next c position lane o)
+    truncate_next_law : (position lane : ℕ) (o : Code.Option Point) → P (truncate_next c position lane o)
     unfolding truncate_next
-    truncate_next_law position lane none = down 1 [] refl
-    truncate_next_law position lane (some p) = lane_r position lane p
+    truncate_next_law position lane None = down 1 [] refl
+    truncate_next_law position lane (Some p) = lane_r position lane p
 
     truncate_step_law : (position : ℕ) (s : TruncateStep) → P (taking (with_points c (dropped_to c.points position) D.Nothing) (S.Delete position) []) → P (truncate_step c position s)
     unfolding truncate_step truncate_delete
@@ -143,11 +145,11 @@ module _ (P : Answered → Type 0) (c : State) (down : (n : ℕ) (vs : List ℕ)
     -- Recover: the calls that go on
     recover_number_law : (n : RecoverNumber) → P (stepped c (recover_number c.vault n))
     unfolding recover_number raise_s raise_n raise_e put_r put_v
-    recover_number_law (M.S b) = step _ _ _ _ _
-    recover_number_law M.N = step _ _ _ _ _
-    recover_number_law (M.R l) = step _ _ _ _ _
-    recover_number_law M.E = step _ _ _ _ _
-    recover_number_law (M.V l) = step _ _ _ _ _
+    recover_number_law (M.S b) = step _ _ _ _
+    recover_number_law M.N = step _ _ _ _
+    recover_number_law (M.R l) = step _ _ _ _
+    recover_number_law M.E = step _ _ _ _
+    recover_number_law (M.V l) = step _ _ _ _
 
     recover_step_law : P (taking (in_service c) S.Empty []) → (room : ℕ) (s : RecoverStep) → P (recover_step c room s)
     unfolding recover_step

@@ -2,7 +2,7 @@
 -- record, that the vault's numbers only rise, which files may go, the stores of the longer operations, and 01's sentences on a collector in
 -- service. The proofs are in proofs/ServiceLaws.antt, BegunLaws, RiseLaws, ForgetLaws and Theorem.
 -- Assumes nothing.
-use Rattle.std.specs.Prelude.{ℕ, suc, ◌+◌, ◌*◌, ◌≤◌, ◌<◌, ◌≡◌, Bool, true, false, cond, not, ◌&&◌, ◌||◌, ◌⊎◌, leb, ltb, eqb, length, take}
+use Rattle.std.specs.Prelude.{ℕ, suc, ◌+◌, ◌*◌, ◌≤◌, ◌<◌, ◌≡◌, Bool, true, false, cond, not, ◌&&◌, ◌||◌, ◌⊎◌, leb, ltb, eqb, length, take, Some}
 use mathlib.Core.List.{List, [], ◌∷◌, ◌++◌, Memᴰ}
 use Rattle.std.proofs.Math.Option.{Option, some, none}
 use Rattle.octets.specs.Lists.{at}
@@ -241,7 +241,7 @@ module _ (key : List ℕ) where
   -- nine calls of Truncate at a covered point name R of lanes 0 to 7 from the point's counts, and then the deletion
   abbrev pub TruncatesNine : Type 0
   TruncatesNine = (es : List Event) (c : State) → Idle es c → (position : ℕ) (p : Point)
-      → find_point position (points_of c.points) ≡ some p → p.covered ≡ true → Names (λ d. truncate d position) c (truncate_stores p) (Dropped c position)
+      → find_point position (points_of c.points) ≡ Some p → p.covered ≡ true → Names (λ d. truncate d position) c (truncate_stores p) (Dropped c position)
 
   -- three calls of Checkpoint, where neither S nor N is at the maximum, name N + 1, the file and S + 1; the file is of the whole table with
   -- version S + 1 and the raised N as seal number; every kept point is then covered, nothing else has changed, and Truncate takes each of them

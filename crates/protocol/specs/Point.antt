@@ -2,7 +2,7 @@
 -- lie below it, earlier ones included. At most 8 points are kept. The newest point is the greatest set since service began, even if dropped."
 -- A listed record's number is W of its lane less the listed records of that lane behind it.
 -- Assumes nothing.
-use Rattle.std.specs.Prelude.{ℕ, zero, suc, ◌+◌, ◌-◌, Bool, true, false, cond, not, ◌&&◌, ◌||◌, List, [], ◌∷◌, ◌++◌, map, leb, ltb, eqb, length, set, replicate}
+use Rattle.std.specs.Prelude.{ℕ, zero, suc, ◌-◌, Bool, true, false, cond, not, ◌&&◌, ◌||◌, List, [], ◌∷◌, ◌++◌, map, leb, ltb, eqb, length, set, replicate}
 use Rattle.octets.specs.Lists.{at, tab}
 use Rattle.table.specs.Table.{lanes}
 use Rattle.protocol.specs.States.{listed, points_max, ready}

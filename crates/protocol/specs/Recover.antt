@@ -4,6 +4,7 @@
 -- "Recover takes 1, 3, 8, then the checkpoint (9, 12), then record by record (9, 10, 11), then 13." The call that accepts names the first N.
 -- Assumes nothing.
 use Rattle.std.specs.Prelude.{ℕ, suc, ◌+◌, Bool, true, false, cond, not, ◌&&◌, ◌||◌, List, [], ◌∷◌, leb, ltb, eqb, length}
+use Rattle.std.specs.Prelude as Code
 use Rattle.std.proofs.Math.Option.{Option, some, none}
 use Rattle.octets.specs.Lists.{at}
 use Rattle.octets.specs.Every.{all_below}
@@ -93,7 +94,7 @@ unfoldable pub after_v : ℕ → Due
 after_v lane = D.Recover (cond (ltb (suc lane) lanes) (G.Number (M.V (suc lane))) G.Empty)
 
 -- the step of a vault number
-unfoldable pub recover_number : Vault → RecoverNumber → Step
+unfoldable pub recover_number : Vault → RecoverNumber → Code.Option Step
 recover_number x (M.S second) = raise_s x (after_version second)
 recover_number x M.N = raise_n x (D.Recover (G.File true))
 recover_number x (M.R lane) = put_r x lane (at x.w lane) (after_r x lane)

@@ -1,12 +1,11 @@
 -- What a call answers, in the terms of 01's table "Numbers on the display when a call is turned down".
 -- Assumes nothing.
-use Rattle.std.specs.Prelude.{ℕ, Bool, true, false, List, [], ◌∷◌, length}
+use Rattle.std.specs.Prelude.{ℕ, Bool, true, false, List, [], ◌∷◌, length, Result, Ok, Err}
 use Rattle.protocol.specs.declared.State.{State}
 use Rattle.protocol.specs.declared.Store.{Store}
 use Rattle.protocol.specs.declared.Refusal.{Refusal}
 use Rattle.protocol.specs.declared.Refusal.TheVariants as R
-use Rattle.protocol.specs.declared.Outcome.{Outcome}
-use Rattle.protocol.specs.declared.Outcome.TheVariants as O
+use Rattle.protocol.specs.declared.Taken.{Taken}
 use Rattle.protocol.specs.declared.Answer.{Answer}
 
 -- the number, and the values returned with it; or the store that is named, and how many bytes are put out
@@ -45,10 +44,10 @@ turn_down false n vs other = other
 -- ---- the code's answer, in these terms
 
 abbrev pub refused_with : State → Refusal → Answer
-refused_with c why = record { state = c; outcome = O.Refused why }
+refused_with c why = record { state = c; outcome = Err why }
 
 abbrev pub taken_with : State → Store → ℕ → Answer
-taken_with c store len = record { state = c; outcome = O.Taken store len }
+taken_with c store len = record { state = c; outcome = Ok (record { store = store; len = len }) }
 
 unfoldable pub number_of : Refusal → ℕ
 number_of R.Condition = 1
@@ -84,9 +83,9 @@ values_of (R.Missing l) = l ∷ []
 values_of R.Point = []
 values_of R.Unseen = []
 
-unfoldable pub shown : Outcome → Said
-shown (O.Taken st n) = taken st n
-shown (O.Refused why) = refused (number_of why) (values_of why)
+unfoldable pub shown : Result Taken Refusal → Said
+shown (Ok t) = taken t.store t.len
+shown (Err why) = refused (number_of why) (values_of why)
 
 -- an answer of the code, where put are the bytes that it put out at the start of the lent buffer
 unfoldable pub shown_as : Answer → List ℕ → Answered

@@ -4,13 +4,13 @@
 -- lanes 0 to 7 from the point's counts".
 -- A number at the maximum already, or a lane above 7, is turned down with 1: no call left such a state.
 -- Assumes nothing.
-use Rattle.std.specs.Prelude.{ℕ, suc, Bool, true, false, not, List, [], ◌∷◌, leb, ltb}
+use Rattle.std.specs.Prelude.{ℕ, suc, Bool, true, false, List, [], ◌∷◌, leb, ltb, Option, Some, None}
 use Rattle.table.specs.Table.{lanes}
 use Rattle.sealed.specs.Aead.{aes_gcm}
 use Rattle.sealed.specs.Checkpoint.{file_len, file_bytes}
 use Rattle.protocol.specs.Vaults.{counter_max, set_v, set_r, set_e, set_s, set_n}
 use Rattle.protocol.specs.States.{with_vault}
-use Rattle.protocol.specs.Said.{Answered, refuse, taking}
+use Rattle.protocol.specs.Said.{Answered, refuse, refusing, taking}
 use Rattle.protocol.specs.declared.Vault.{Vault}
 use Rattle.protocol.specs.declared.State.{State}
 use Rattle.protocol.specs.declared.Due.{Due}
@@ -20,31 +20,32 @@ use Rattle.protocol.specs.declared.Store.TheVariants as S
 
 -- ---- a vault number
 
--- from the numbers x to y; where the test holds the number cannot be set
-unfoldable pub stands_if : Bool → Vault → Vault → Due → Store → Step
-stands_if true x y next store = record { goes = false; vault = x; due = next; store = S.Nothing }
-stands_if false x y next store = record { goes = true; vault = y; due = next; store = store }
+-- to the numbers y; where the test holds the number cannot be set
+unfoldable pub stands_if : Bool → Vault → Due → Store → Option Step
+stands_if true y next store = None
+stands_if false y next store = Some (record { vault = y; due = next; store = store })
 
 -- S + 1, N + 1, E + 1
-unfoldable pub raise_s : Vault → Due → Step
-raise_s x next = stands_if (leb counter_max x.s) x (set_s x (suc x.s)) next (S.S (suc x.s))
+unfoldable pub raise_s : Vault → Due → Option Step
+raise_s x next = stands_if (leb counter_max x.s) (set_s x (suc x.s)) next (S.S (suc x.s))
 
-unfoldable pub raise_n : Vault → Due → Step
-raise_n x next = stands_if (leb counter_max x.n) x (set_n x (suc x.n)) next (S.N (suc x.n))
+unfoldable pub raise_n : Vault → Due → Option Step
+raise_n x next = stands_if (leb counter_max x.n) (set_n x (suc x.n)) next (S.N (suc x.n))
 
-unfoldable pub raise_e : Vault → Due → Step
-raise_e x next = stands_if (leb counter_max x.e) x (set_e x (suc x.e)) next (S.E (suc x.e))
+unfoldable pub raise_e : Vault → Due → Option Step
+raise_e x next = stands_if (leb counter_max x.e) (set_e x (suc x.e)) next (S.E (suc x.e))
 
 -- R and V of a lane; Recover's are W
-unfoldable pub put_r : Vault → ℕ → ℕ → Due → Step
-put_r x lane value next = stands_if (leb lanes lane) x (set_r x lane value) next (S.R lane value)
+unfoldable pub put_r : Vault → ℕ → ℕ → Due → Option Step
+put_r x lane value next = stands_if (leb lanes lane) (set_r x lane value) next (S.R lane value)
 
-unfoldable pub put_v : Vault → ℕ → ℕ → Due → Step
-put_v x lane value next = stands_if (leb lanes lane) x (set_v x lane value) next (S.V lane value)
+unfoldable pub put_v : Vault → ℕ → ℕ → Due → Option Step
+put_v x lane value next = stands_if (leb lanes lane) (set_v x lane value) next (S.V lane value)
 
 -- what a call then answers
-unfoldable pub stepped : State → Step → Answered
-stepped c s = refuse (not s.goes) c 1 [] (taking (with_vault c s.vault s.due) s.store [])
+unfoldable pub stepped : State → Option Step → Answered
+stepped c None = refusing c 1 []
+stepped c (Some s) = taking (with_vault c s.vault s.due) s.store []
 
 -- ---- the file
 

@@ -5,7 +5,7 @@
 -- Truncate: "stores R of lanes 0 to 7 from the point's counts, then deletion of records below it."
 -- The theorems are in proofs/TallyLaws.antt.
 -- Assumes nothing.
-use Rattle.std.specs.Prelude.{ℕ, zero, suc, ◌≤◌, ◌<◌, ◌≡◌, Bool, true, cond, length}
+use Rattle.std.specs.Prelude.{ℕ, zero, suc, ◌≤◌, ◌<◌, ◌≡◌, Bool, true, cond, length, Some}
 use mathlib.Core.List.{List, [], ◌∷◌, ◌++◌, map, Memᴰ}
 use Rattle.std.proofs.Math.Option.{Option, some, none}
 use Rattle.octets.specs.Lists.{at}
@@ -127,4 +127,4 @@ pub record Covered (c d : State) : Type 0 where
 
 -- at each point that c keeps, d takes a truncation
 abbrev pub Truncates : State → State → Type 0
-Truncates c d = (position : ℕ) (p : Point) → find_point position (points_of c.points) ≡ some p → Names (λ e. truncate e position) d (truncate_stores p) (Dropped d position)
+Truncates c d = (position : ℕ) (p : Point) → find_point position (points_of c.points) ≡ Some p → Names (λ e. truncate e position) d (truncate_stores p) (Dropped d position)

@@ -1,8 +1,7 @@
 -- 01, Operations: "Truncate at a covered point, named by its position: stores R of lanes 0 to 7 from the point's counts, then deletion of
 -- records below it. That point and older ones are dropped, so their places are free." Nine calls: R of lanes 0 to 7, the deletion.
 -- Assumes nothing.
-use Rattle.std.specs.Prelude.{ℕ, suc, ◌-◌, Bool, cond, not, ◌&&◌, List, [], ◌∷◌, ◌++◌, ltb, eqb, length, take, replicate}
-use Rattle.std.proofs.Math.Option.{Option, some, none}
+use Rattle.std.specs.Prelude.{ℕ, suc, ◌-◌, Bool, cond, not, ◌&&◌, List, [], ◌∷◌, ◌++◌, ltb, eqb, length, take, replicate, Option, Some, None}
 use Rattle.octets.specs.Lists.{at}
 use Rattle.table.specs.Table.{lanes}
 use Rattle.protocol.specs.States.{points_max, no_point, valid, serving, with_points}
@@ -21,8 +20,8 @@ unfoldable pub points_of : Points → List Point
 points_of p = take p.count p.items
 
 unfoldable pub find_point : ℕ → List Point → Option Point
-find_point position [] = none
-find_point position (p ∷ ps) = cond (eqb p.position position) (some p) (find_point position ps)
+find_point position [] = None
+find_point position (p ∷ ps) = cond (eqb p.position position) (Some p) (find_point position ps)
 
 unfoldable pub points_above : ℕ → List Point → List Point
 points_above position [] = []
@@ -50,13 +49,13 @@ unfoldable pub uncovered : Point → Bool
 uncovered p = not p.covered
 
 unfoldable pub truncate_first : State → ℕ → Option Point → Answered
-truncate_first c position none = refusing c 14 []
-truncate_first c position (some p) = refuse (uncovered p) c 14 [] (truncate_lane c position 0 p)
+truncate_first c position None = refusing c 14 []
+truncate_first c position (Some p) = refuse (uncovered p) c 14 [] (truncate_lane c position 0 p)
 
 -- a continuing call names the due store: at another position, or where its point or lane is none, it is turned down
 unfoldable pub truncate_next : State → ℕ → ℕ → Option Point → Answered
-truncate_next c position lane none = refusing c 1 []
-truncate_next c position lane (some p) = truncate_lane c position lane p
+truncate_next c position lane None = refusing c 1 []
+truncate_next c position lane (Some p) = truncate_lane c position lane p
 
 -- the deletion, with the points above the position
 unfoldable pub truncate_delete : State → ℕ → Answered

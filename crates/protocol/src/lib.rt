@@ -1,8 +1,12 @@
 // The collector's state and what its calls answer (01, Vault and stores, Operations, Numbers on the display).
 //
-// This crate has the declared types and the definitions of the eight operations over them (specs/). It has no code: the
-// crates of the operations have it, and their contracts cite these definitions.
+// This crate has the declared types and the definitions of the eight operations over them (specs/). Its only code gives a
+// refusal's number and value: the crates of the operations have the rest, and their contracts cite these definitions.
 #![tactic(auto)]
+
+ghost use Rattle.std.specs.Prelude.{◌≡◌};
+ghost use Rattle.octets.specs.Lists.{at};
+ghost use Rattle.protocol.specs.Said.{number_of, values_of};
 
 use table::{LANES, Table};
 use transaction::MAX_TEXT;
@@ -15,7 +19,7 @@ pub const LISTED: usize = 128;
 pub const POINTS: usize = 8;
 
 // The vault's 27 numbers. For each lane: w, the numbers handed out; v, the numbers visible; r, the numbers truncated.
-// The epoch e, the checkpoint version s, and the checkpoint seal number n.
+// The epoch e, the checkpoint version s, and the checkpoint seal number n. The C interface has this layout.
 #[repr(C)]
 #[derive(Clone, Copy)]
 pub struct Vault {
@@ -28,7 +32,7 @@ pub struct Vault {
 }
 
 // A collector is cold after loading, recovering, or in service.
-#[derive(Clone, Copy)]
+#[derive(Clone, Copy, PartialEq, Eq)]
 pub enum Phase {
     Cold,
     Recovering,
@@ -36,7 +40,7 @@ pub enum Phase {
 }
 
 // The single store that is due, by the operation that it belongs to.
-#[derive(Clone, Copy)]
+#[derive(Clone, Copy, PartialEq, Eq)]
 pub enum Due {
     Nothing,
     // Accept: the record of the transaction held.
@@ -48,21 +52,21 @@ pub enum Due {
 }
 
 // Behind N: the file, then S.
-#[derive(Clone, Copy)]
+#[derive(Clone, Copy, PartialEq, Eq)]
 pub enum CheckpointStep {
     File,
     Version,
 }
 
 // R of a lane, then the deletion.
-#[derive(Clone, Copy)]
+#[derive(Clone, Copy, PartialEq, Eq)]
 pub enum TruncateStep {
     R { lane: u8 },
     Delete,
 }
 
 // Behind the first N: the file of the first or second checkpoint, a vault number, emptying the log.
-#[derive(Clone, Copy)]
+#[derive(Clone, Copy, PartialEq, Eq)]
 pub enum RecoverStep {
     File { second: bool },
     Number { number: RecoverNumber },
@@ -70,7 +74,7 @@ pub enum RecoverStep {
 }
 
 // S of the first or second checkpoint, the second N, R of a lane, E, V of a lane.
-#[derive(Clone, Copy)]
+#[derive(Clone, Copy, PartialEq, Eq)]
 pub enum RecoverNumber {
     S { second: bool },
     N,
@@ -79,7 +83,8 @@ pub enum RecoverNumber {
     V { lane: u8 },
 }
 
-// The accepted records at or above the newest point, in the order of their positions, and the last position used.
+// The accepted records at or above the newest point, in the order of their positions, and the last position used. The C
+// interface has this layout: two arrays with a count, and a flag beside the last position.
 #[repr(C)]
 #[derive(Clone, Copy)]
 pub struct Journal {
@@ -90,7 +95,7 @@ pub struct Journal {
     pub last: u64,
 }
 
-// A point: per lane how many numbers lie below it, and whether a checkpoint covers it.
+// A point: per lane how many numbers lie below it, and whether a checkpoint covers it. The C interface has this layout.
 #[repr(C)]
 #[derive(Clone, Copy)]
 pub struct Point {
@@ -99,7 +104,8 @@ pub struct Point {
     pub covered: bool,
 }
 
-// The points kept, and the newest one set since service began.
+// The points kept, and the newest one set since service began. The C interface has this layout: an array with a count, and a
+// flag beside the newest position.
 #[repr(C)]
 #[derive(Clone, Copy)]
 pub struct Points {
@@ -109,7 +115,7 @@ pub struct Points {
     pub newest: u64,
 }
 
-// The transaction that Accept holds for Seal.
+// The transaction that Accept holds for Seal. The C interface has this layout: an array with a length.
 #[repr(C)]
 #[derive(Clone, Copy)]
 pub struct Held {
@@ -132,7 +138,7 @@ pub struct State {
 }
 
 // The store that a call names.
-#[derive(Clone, Copy)]
+#[derive(Clone, Copy, PartialEq, Eq)]
 pub enum Store {
     Nothing,
     W { lane: u8, value: u64 },
@@ -147,18 +153,16 @@ pub enum Store {
     Empty,
 }
 
-// The step of a vault number: whether it can be set, the vault's numbers behind it, the store that is due next, and the
-// store named. One that cannot be set leaves the numbers as they are.
+// The step of a vault number: the vault's numbers behind it, the store that is due next, and the store named.
 #[derive(Clone, Copy)]
 pub struct Step {
-    pub goes: bool,
     pub vault: Vault,
     pub due: Due,
     pub store: Store,
 }
 
 // Why a call is turned down.
-#[derive(Clone, Copy)]
+#[derive(Clone, Copy, PartialEq, Eq)]
 pub enum Refusal {
     Condition,
     Numbers,
@@ -177,12 +181,56 @@ pub enum Refusal {
     Unseen,
 }
 
-// What a call answers: the store that it names and how many bytes it put out, or why it was turned down.
-#[derive(Clone, Copy)]
-pub enum Outcome {
-    Taken { store: Store, len: usize },
-    Refused { why: Refusal },
+// The number and the value on the display (01, Numbers on the display when a call is turned down).
+impl Refusal {
+    // The number.
+    #[tactic(auto, unfolding(crate::specs::Said::number_of))]
+    pub fn number(self) -> u8
+        ensures { result ≡ number_of self }
+    {
+        match self {
+            Refusal::Condition => 1,
+            Refusal::Numbers => 2,
+            Refusal::Length { .. } => 3,
+            Refusal::Transaction => 4,
+            Refusal::Lane => 5,
+            Refusal::Position => 6,
+            Refusal::Full => 7,
+            Refusal::Spent => 8,
+            Refusal::Closed { .. } => 9,
+            Refusal::Epoch { .. } => 10,
+            Refusal::Turn { .. } => 11,
+            Refusal::Version => 12,
+            Refusal::Missing { .. } => 13,
+            Refusal::Point => 14,
+            Refusal::Unseen => 15,
+        }
+    }
+
+    // The value returned with it, or 0 where there is none.
+    #[tactic(auto, unfolding(crate::specs::Said::values_of))]
+    pub fn value(self) -> u64
+        ensures { result ≡ at (values_of self) 0 }
+    {
+        match self {
+            Refusal::Length { right } => right as u64,
+            Refusal::Closed { offset } | Refusal::Epoch { offset } | Refusal::Turn { offset } =>
+                offset as u64,
+            Refusal::Missing { lane } => u64::from(lane),
+            _ => 0,
+        }
+    }
 }
+
+// A call that is taken: the store that it names, and how many bytes it put out.
+#[derive(Clone, Copy, PartialEq, Eq)]
+pub struct Taken {
+    pub store: Store,
+    pub len: usize,
+}
+
+// What a call answers: what was taken, or why it was turned down.
+pub type Outcome = Result<Taken, Refusal>;
 
 // A call hands the state back with its outcome.
 #[derive(Clone, Copy)]

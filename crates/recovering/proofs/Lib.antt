@@ -1,3 +1,2 @@
--- StartLaws: the ways out of Recover's first call. OnLaws: those of the calls that go on.
+-- StartLaws: what is read under a prepared key.
 pub mod StartLaws
-pub mod OnLaws

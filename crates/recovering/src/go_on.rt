@@ -7,6 +7,7 @@ ghost use Rattle.protocol.specs.declared.RecoverStep.TheVariants as G;
 ghost use Rattle.protocol.specs.Recover.{after_version, all_visible, after_r, after_v, recover_number};
 
 use protocol::{Due, RecoverNumber, RecoverStep, Step, Vault};
+use steps::{Counter, LaneCounter};
 use table::LANES;
 
 // A vault number is due.
@@ -28,6 +29,7 @@ fn empty_due() -> Due
 }
 
 // Behind S: N of the second checkpoint, and behind that one's S the first R.
+#[tactic(auto, unfolding(protocol::specs::Recover::after_version))]
 fn after_version(second: bool) -> Due
     ensures { result ≡ after_version second }
 {
@@ -38,73 +40,61 @@ fn after_version(second: bool) -> Due
 }
 
 // Whether every number handed out is visible: W = V of every lane.
+#[tactic(auto, unfolding(protocol::specs::Recover::all_visible))]
 fn all_visible(x: Vault) -> bool
     ensures { result ≡ all_visible x }
 {
-    let mut good = true;
-    let mut lane: u8 = 0;
-    while lane < LANES {
-        let w = vault::w_at(x, lane);
-        let v = vault::v_at(x, lane);
-        good = good & (w == v);
-        lane += 1;
-    }
-    good
+    (0..LANES).all(|lane| vault::lane_at(x.w, lane) == vault::lane_at(x.v, lane))
 }
 
 // Behind R of a lane: R of the next, and behind the last E, or the emptying where every number is visible.
+#[tactic(auto, unfolding(protocol::specs::Recover::after_r))]
 fn after_r(x: Vault, lane: u8) -> Due
     ensures { result ≡ after_r x lane }
 {
     if lane < LANES - 1 {
-        let next = lane + 1;
-        return number_due(RecoverNumber::R { lane: next });
+        return number_due(RecoverNumber::R { lane: lane + 1 });
     }
-    if !all_visible(x) {
-        return number_due(RecoverNumber::E);
+    if all_visible(x) {
+        return empty_due();
     }
-    empty_due()
+    number_due(RecoverNumber::E)
 }
 
 // Behind V of a lane: V of the next, and behind the last the emptying.
+#[tactic(auto, unfolding(protocol::specs::Recover::after_v))]
 fn after_v(lane: u8) -> Due
     ensures { result ≡ after_v lane }
 {
     if lane < LANES - 1 {
-        let next = lane + 1;
-        return number_due(RecoverNumber::V { lane: next });
+        return number_due(RecoverNumber::V { lane: lane + 1 });
     }
     empty_due()
 }
 
 // The step of a vault number: S + 1, N + 1, R = W of a lane, E + 1, V = W of a lane.
-pub fn number_step(x: Vault, number: RecoverNumber) -> Step
+#[tactic(auto, unfolding(protocol::specs::Recover::recover_number))]
+pub fn number_step(x: Vault, number: RecoverNumber) -> Option<Step>
     ensures { result ≡ recover_number x number }
 {
     match number {
-        RecoverNumber::S { second } => {
-            let next = after_version(second);
-            steps::raise_s(x, next)
-        }
+        RecoverNumber::S { second } => steps::raise(x, Counter::S, after_version(second)),
         RecoverNumber::N => {
             let next = Due::Recover {
                 step: RecoverStep::File { second: true },
             };
-            steps::raise_n(x, next)
+            steps::raise(x, Counter::N, next)
         }
         RecoverNumber::R { lane } => {
-            let value = vault::w_at(x, lane);
-            let next = after_r(x, lane);
-            steps::put_r(x, lane, value, next)
+            let w = vault::lane_at(x.w, lane);
+            steps::put(x, LaneCounter::R, lane, w, after_r(x, lane))
         }
         RecoverNumber::E => {
-            let next = number_due(RecoverNumber::V { lane: 0 });
-            steps::raise_e(x, next)
+            steps::raise(x, Counter::E, number_due(RecoverNumber::V { lane: 0 }))
         }
         RecoverNumber::V { lane } => {
-            let value = vault::w_at(x, lane);
-            let next = after_v(lane);
-            steps::put_v(x, lane, value, next)
+            let w = vault::lane_at(x.w, lane);
+            steps::put(x, LaneCounter::V, lane, w, after_v(lane))
         }
     }
 }

@@ -1,23 +1,26 @@
 -- A checkpoint file as it is laid out and as it is read; its length, and that what was sealed opens.
 -- Assumes nothing.
 use mathlib.Core.Path.{◌≡◌, refl, sym, ap, ap₂, ◌∙◌}
-use mathlib.Core.Bool.{Bool, true, false, cond, not, ◌&&◌}
+use mathlib.Core.Bool.{Bool, true, false, cond, ◌&&◌}
 use mathlib.Core.List.{List, [], ◌∷◌, ◌++◌, append_assoc, append-nil}
 use mathlib.Core.Option.{Option, some, none}
+use Rattle.std.specs.Prelude as Code
+use Rattle.std.specs.List.{starts_with}
+use Rattle.std.specs.Bool.{OnTrue}
+use Rattle.std.specs.Prelude.{Result, Ok, Err}
 use Prim.Native.Nat.{ℕ, ◌+◌, ◌-◌, ◌^◌, ◌<◌, ◌≤◌}
 use native.Mathlib.Nat.{le_of_eq}
 use native.Mathlib.Omega.{arith}
-use borrow.Author.Tests.{eq-eqb, ne_eqb, eqb-true, lt-ltb, le-ltb, not-true, not-false}
+use borrow.Author.Tests.{eq-eqb, ne_eqb, eqb-true, eqb-false, lt-ltb, le-ltb}
 use borrow.Rule.Slice.PartMut.{mid_of}
 use lib.Dec.{leb, eqb}
 use lib.ListN.{length, take, drop, length-append, length-drop, drop_of_length-le}
-use lib.Seq.{take_at, drop_at, length-take-le}
-use Rattle.octets.specs.Lists.{at, tab, over, put_over}
+use lib.Seq.{drop_at, length-take-le}
+use Rattle.octets.specs.Lists.{at, put_over}
 use Rattle.octets.specs.Bytes.{padded, same_bytes}
 use Rattle.octets.specs.Little.{little, little_bytes}
-use Rattle.octets.proofs.BoolLaws.{and_left}
+use Rattle.octets.proofs.BoolLaws.{and_left, and_true}
 use Rattle.octets.proofs.LittleLaws.{length_little, little_fits}
-use Rattle.octets.proofs.CopyLaws.{over_room}
 use Rattle.octets.proofs.PartLaws.{mid_rest}
 use Rattle.aes.specs.Cipher.{cipher}
 use Rattle.aes.proofs.CounterLaws.{cipher_length}
@@ -26,7 +29,6 @@ use Rattle.gcm.specs.Gcm.{tag_len, only_if, tag_of, cipher_text, opened}
 use Rattle.gcm.specs.Answers.{text_put}
 use Rattle.gcm.specs.Key.{prepared}
 use Rattle.gcm.proofs.SealLaws.{length_cipher_text}
-use Rattle.transaction.specs.Transaction.{meters}
 use Rattle.table.specs.declared.Table.{Table}
 use Rattle.table.specs.Canonical.{CanonicalTable}
 use Rattle.table.specs.TableText.{table_len, table_text, is_table, table_from}
@@ -34,20 +36,12 @@ use Rattle.table.proofs.TextLaws.{length_table}
 use Rattle.table.proofs.RoundTrip.{text_is_table, table_back}
 use Rattle.sealed.specs.Aead.{Aead, aes_gcm, gcm_by, prepared_by}
 use Rattle.sealed.specs.Frame.{head_len, trailer_len, frame_len, framed, unframed, trailer_of, is_some}
-use Rattle.sealed.specs.Checkpoint.{file_len, file_kind, file_head, file_nonce, file_bytes, file_answer, file_put, version_of, seal_of, legal_file, opened_table, open_file, shown_file}
-use Rattle.sealed.specs.declared.file.FileHead.TheVariants as H
+use Rattle.sealed.specs.Checkpoint.{file_len, file_kind, file_head, file_nonce, file_bytes, file_answer, file_put, version_of, seal_of, legal_file, OpenedFile, opened_table, open_file, shown_file}
 use Rattle.sealed.specs.declared.file.FileRead.{FileRead}
-use Rattle.sealed.specs.declared.file.FilePut.TheVariants as P
+use Rattle.sealed.specs.declared.file.Short.{Short}
 use Rattle.sealed.proofs.FrameTrip.{Grows, Opens, aes_grows, aes_opens, length_framed, frame_trip, prepared_framed, prepared_unframed}
 
--- ---- the head, byte after byte
-
-abbrev head_laid : List ℕ → List ℕ → List ℕ
-head_laid v i = file_kind ∷ 0 ∷ 0 ∷ 0 ∷ (tab 8 (at v) ++ tab 8 (at i))
-
-pub head_laid_law : (version seal : ℕ) {v i : List ℕ} → v ≡ little_bytes 8 version → i ≡ little_bytes 8 seal → head_laid v i ≡ file_head version seal
-unfolding little_bytes file_head
-head_laid_law version seal ev ei = ap₂ head_laid ev ei
+-- ---- the head
 
 pub length_head : (version seal : ℕ) → length (file_head version seal) ≡ head_len
 unfolding file_head
@@ -59,9 +53,37 @@ length_head version seal =
 
 -- ---- whether bytes may be a file
 
-pub not_file : (s : List ℕ) → (length s ≡ file_len → ⊥) → legal_file s ≡ false
+eqb_comm : (m n : ℕ) → eqb m n ≡ eqb n m
+eqb_comm m n = go (eqb m n) refl
+  where
+    go : (b : Bool) → eqb m n ≡ b → eqb m n ≡ eqb n m
+    go true e = e ∙ sym (eq-eqb n m (sym (eqb-true m n e)))
+    go false e = e ∙ sym (ne_eqb n m (λ q. eqb-false m n e (sym q)))
+
+five : (p a b c d : Bool) → p && (a && (b && (c && (d && true)))) ≡ p && a && b && c && d
+five false a b c d = refl
+five true false b c d = refl
+five true true false c d = refl
+five true true true false d = refl
+five true true true true d = and_true d
+
+-- the length, and the four bytes that a file starts with
+pub file_starts : (s : List ℕ) → eqb (length s) file_len && starts_with eqb s (2 ∷ 0 ∷ 0 ∷ 0 ∷ []) ≡ legal_file s
 unfolding legal_file
-not_file s no_file = rw (ne_eqb (length s) file_len no_file)
+file_starts [] = refl
+file_starts (a ∷ []) = refl
+file_starts (a ∷ b ∷ []) = refl
+file_starts (a ∷ b ∷ c ∷ []) = refl
+file_starts (a ∷ b ∷ c ∷ d ∷ s) = rw (eqb_comm 2 a, eqb_comm 0 b, eqb_comm 0 c, eqb_comm 0 d) (five (eqb (length (a ∷ b ∷ c ∷ d ∷ s)) file_len) (eqb a 2) (eqb b 0) (eqb c 0) (eqb d 0))
+
+-- bytes that pass a test of their length are that long
+pub of_length : (n k : ℕ) (b : Bool) → OnTrue (eqb n k && b) (n ≡ k)
+of_length n k b = go (eqb n k) refl b
+  where
+    go : (p : Bool) → eqb n k ≡ p → (b : Bool) → OnTrue (p && b) (n ≡ k)
+    go true e true = eqb-true n k e
+    go true e false = tt
+    go false e b = tt
 
 pub file_bytes_law : (s : List ℕ) → length s ≡ file_len → legal_file s ≡ eqb (at s 0) file_kind && eqb (at s 1) 0 && eqb (at s 2) 0 && eqb (at s 3) 0
 unfolding legal_file
@@ -79,11 +101,11 @@ legal_length s e =
 -- ---- sealing: the answer and the buffer
 
 module _ (o f : List ℕ) where
-  pub file_short : length o < file_len → (P.Short file_len ≡ file_answer (length o)) × (o ≡ put_over (file_put (file_answer (length o)) f) o)
+  pub file_short : length o < file_len → (◌≡◌ {A = Result ℕ Short} (Err (record { needed = file_len })) (file_answer (length o))) × (o ≡ put_over (file_put (file_answer (length o)) f) o)
   unfolding file_answer file_put
   file_short h = (rw (lt-ltb (length o) file_len h), rw (lt-ltb (length o) file_len h))
 
-  pub file_done : {r : List ℕ} → file_len ≤ length o → r ≡ put_over f o → (P.Done file_len ≡ file_answer (length o)) × (r ≡ put_over (file_put (file_answer (length o)) f) o)
+  pub file_done : {r : List ℕ} → file_len ≤ length o → r ≡ put_over f o → (◌≡◌ {A = Result ℕ Short} (Ok file_len) (file_answer (length o))) × (r ≡ put_over (file_put (file_answer (length o)) f) o)
   unfolding file_answer file_put
   file_done h e = (rw (le-ltb (length o) file_len h), rw (le-ltb (length o) file_len h) e)
 
@@ -156,51 +178,57 @@ module _ (a : Aead) (s : List ℕ) where
       → open_file a s ≡ some (record { version = version_of s; seal = seal_of s; table = table_from t })
   open_opens t e q w = open_text t e q ∙ rw w
 
+closed : {o : Option OpenedFile} → o ≡ none → Code.None ≡ shown_file o
+unfolding shown_file
+closed e = ap shown_file (sym e)
+
 -- as the code reads
-module _ (w m s : List ℕ) {r : Bool} (er : r ≡ legal_file s) where
-  pub read_illegal : not r ≡ true → shown_file none ≡ shown_file (open_file (prepared_by w m) s)
-  read_illegal h = ap shown_file (sym (open_illegal (prepared_by w m) s (sym er ∙ not-true r h)))
+module _ (w m s : List ℕ) where
+  pub read_illegal : legal_file s ≡ false → Code.None ≡ shown_file (open_file (prepared_by w m) s)
+  read_illegal h = closed (open_illegal (prepared_by w m) s h)
 
-  module _ (hr : not r ≡ false) where
-    is_legal : legal_file s ≡ true
-    is_legal = sym er ∙ not-false r hr
+  module _ (is_legal : legal_file s ≡ true) {n : ℕ} (es : n ≡ little (padded 8 (mid_of 12 (length s - 12) s))) {nonce : List ℕ} (en : nonce ≡ file_nonce n) where
+    seal_is : n ≡ seal_of s
+    unfolding seal_of
+    seal_is = es ∙ ap (λ (l : List ℕ). little (padded 8 l)) (mid_rest 12 s)
 
-    pub read_length : length s ≡ file_len
-    read_length = legal_length s is_legal
+    nonce_is : nonce ≡ file_nonce (seal_of s)
+    nonce_is = en ∙ ap file_nonce seal_is
 
-    module _ {n : ℕ} (es : n ≡ little (padded 8 (mid_of 12 (length s - 12) s))) {nonce : List ℕ} (en : nonce ≡ file_nonce n)
-        {q : Bool} (eq : q ≡ is_some (unframed (prepared_by w m) nonce s)) where
-      seal_is : n ≡ seal_of s
-      unfolding seal_of
-      seal_is = es ∙ ap (λ (l : List ℕ). little (padded 8 l)) (mid_rest 12 s)
+    under : unframed (prepared_by w m) (file_nonce (seal_of s)) s ≡ unframed (prepared_by w m) nonce s
+    under = ap (λ (l : List ℕ). unframed (prepared_by w m) l s) (sym nonce_is)
 
-      nonce_is : nonce ≡ file_nonce (seal_of s)
-      nonce_is = en ∙ ap file_nonce seal_is
+    pub read_shut : is_some (unframed (prepared_by w m) nonce s) ≡ false → Code.None ≡ shown_file (open_file (prepared_by w m) s)
+    read_shut h = closed (open_shut (prepared_by w m) s is_legal (ap is_some under ∙ h))
 
-      some_is : is_some (unframed (prepared_by w m) (file_nonce (seal_of s)) s) ≡ q
-      some_is = sym (eq ∙ ap (λ (l : List ℕ). is_some (unframed (prepared_by w m) l s)) nonce_is)
+    module _ (opens : is_some (unframed (prepared_by w m) nonce s) ≡ true) (z : List ℕ) {t : List ℕ} (lz : length z ≡ table_len)
+        (et : t ≡ put_over (text_put (unframed (prepared_by w m) nonce s)) z) where
+      got : unframed (prepared_by w m) (file_nonce (seal_of s)) s ≡ some t
+      got = under ∙ text_got w m nonce s z t (legal_length s is_legal) lz opens et
 
-      pub read_shut : not q ≡ true → shown_file none ≡ shown_file (open_file (prepared_by w m) s)
-      read_shut h = ap shown_file (sym (open_shut (prepared_by w m) s is_legal (some_is ∙ not-true q h)))
+      pub read_other : is_table t ≡ false → Code.None ≡ shown_file (open_file (prepared_by w m) s)
+      read_other h = closed (open_other (prepared_by w m) s t is_legal got h)
 
-      module _ (hq : not q ≡ false) (z : List ℕ) {t : List ℕ} (lz : length z ≡ table_len) (et : t ≡ put_over (text_put (unframed (prepared_by w m) nonce s)) z)
-          {b : Bool} (eb : b ≡ is_table t) where
-        got : unframed (prepared_by w m) (file_nonce (seal_of s)) s ≡ some t
-        got =
-            text_got w m (file_nonce (seal_of s)) s z t read_length lz (some_is ∙ not-false q hq)
-            (et ∙ ap (λ (l : List ℕ). put_over (text_put (unframed (prepared_by w m) l s)) z) nonce_is)
+      pub read_opens : is_table t ≡ true → {v : ℕ} {x : Table} → v ≡ little (padded 8 (mid_of 4 (length s - 4) s)) → x ≡ table_from t
+          → ◌≡◌ {A = Code.Option FileRead} (Code.Some (record { version = v; seal = n; table = x })) (shown_file (open_file (prepared_by w m) s))
+      unfolding shown_file version_of
+      read_opens h {v} {x} ev ex =
+          let f : Table → Code.Option FileRead = λ y. Code.Some (record { version = v; seal = n; table = y }) in
+          let g : ℕ → ℕ → Code.Option FileRead = λ x y. Code.Some (record { version = x; seal = y; table = table_from t }) in
+          ap f ex ∙ ap₂ g (ev ∙ ap (λ (l : List ℕ). little (padded 8 l)) (mid_rest 4 s)) seal_is
+          ∙ sym (ap shown_file (open_opens (prepared_by w m) s t is_legal got h))
 
-        pub read_other : not b ≡ true → shown_file none ≡ shown_file (open_file (prepared_by w m) s)
-        read_other h = ap shown_file (sym (open_other (prepared_by w m) s t is_legal got (sym eb ∙ not-true b h)))
+-- ---- as it is handed over
 
-        pub read_opens : not b ≡ false → {v : ℕ} {x : Table} → v ≡ little (padded 8 (mid_of 4 (length s - 4) s)) → x ≡ table_from t
-            → ◌≡◌ {A = FileRead} (record { head = H.File v n; table = x }) (shown_file (open_file (prepared_by w m) s))
-        unfolding shown_file version_of
-        read_opens h {v} {x} ev ex =
-            let f : Table → FileRead = λ y. record { head = H.File v n; table = y } in
-            let g : ℕ → ℕ → FileRead = λ x y. record { head = H.File x y; table = table_from t } in
-            ap f ex ∙ ap₂ g (ev ∙ ap (λ (l : List ℕ). little (padded 8 l)) (mid_rest 4 s)) seal_is
-            ∙ sym (ap shown_file (open_opens (prepared_by w m) s t is_legal got (sym eb ∙ not-false b h)))
+pub shown_file_some : (o : Option OpenedFile) (x : FileRead) → Code.Some x ≡ shown_file o → o ≡ some (record { version = x.version; seal = x.seal; table = x.table })
+unfolding shown_file
+shown_file_some none x e = let z : ◌≡◌ {A = ℕ} 0 1 = cc in absurd (omega arith)
+shown_file_some (some r) x e = let v : r.version ≡ x.version = cc in let n : r.seal ≡ x.seal = cc in let t : r.table ≡ x.table = cc in λ i. some (record { version = v i; seal = n i; table = t i })
+
+pub shown_file_none : (o : Option OpenedFile) → Code.None ≡ shown_file o → o ≡ none
+unfolding shown_file
+shown_file_none none e = refl
+shown_file_none (some r) e = let z : ◌≡◌ {A = ℕ} 0 1 = cc in absurd (omega arith)
 
 -- ---- what was sealed opens
 

@@ -2,22 +2,20 @@
 -- Nonce: 2, 0, 0, 0, seal number (8)." Its text is a table.
 -- "Bytes open only if lengths, kind, lane, n, trailer, zero bytes, tag and text are all right."
 -- Assumes nothing.
-use Rattle.std.specs.Prelude.{ℕ, ◌+◌, Bool, cond, ◌&&◌, List, [], ◌∷◌, ◌++◌, ltb, eqb, length, drop}
+use Rattle.std.specs.Prelude.{ℕ, ◌+◌, Bool, cond, ◌&&◌, List, [], ◌∷◌, ◌++◌, ltb, eqb, length, drop, Result, Ok, Err}
+use Rattle.std.specs.Prelude as Code
 use Rattle.std.proofs.Math.Option.{Option, some, none}
 use Rattle.octets.specs.Lists.{at}
 use Rattle.octets.specs.Bytes.{padded}
 use Rattle.octets.specs.Little.{little, little_bytes}
 use Rattle.transaction.specs.Edition.{present}
 use Rattle.table.specs.declared.Table.{Table}
-use Rattle.table.specs.Table.{empty_table}
 use Rattle.table.specs.TableText.{table_len, table_text, is_table, table_from}
 use Rattle.sealed.specs.Aead.{Aead}
 use Rattle.sealed.specs.Nonce.{nonce_of}
 use Rattle.sealed.specs.Frame.{frame_len, framed, unframed}
-use Rattle.sealed.specs.declared.file.FileHead.TheVariants as H
 use Rattle.sealed.specs.declared.file.FileRead.{FileRead}
-use Rattle.sealed.specs.declared.file.FilePut.{FilePut}
-use Rattle.sealed.specs.declared.file.FilePut.TheVariants as P
+use Rattle.sealed.specs.declared.file.Short.{Short}
 
 abbrev pub file_kind : ℕ
 file_kind = present.file_kind
@@ -37,13 +35,13 @@ unfoldable pub file_bytes : Aead → ℕ → ℕ → Table → List ℕ
 file_bytes a version seal t = framed a (file_nonce seal) (file_head version seal) (table_text t)
 
 -- the answer to sealing a file where there is room for r bytes
-unfoldable pub file_answer : ℕ → FilePut
-file_answer r = cond (ltb r file_len) (P.Short file_len) (P.Done file_len)
+unfoldable pub file_answer : ℕ → Result ℕ Short
+file_answer r = cond (ltb r file_len) (Err (record { needed = file_len })) (Ok file_len)
 
 -- what is put out, where the file's bytes are out
-unfoldable pub file_put : FilePut → List ℕ → List ℕ
-file_put (P.Done n) out = out
-file_put (P.Short n) out = []
+unfoldable pub file_put : Result ℕ Short → List ℕ → List ℕ
+file_put (Ok n) out = out
+file_put (Err e) out = []
 
 -- ---- read
 
@@ -71,8 +69,8 @@ opened_table s (some t) = cond (is_table t) (some (record { version = version_of
 unfoldable pub open_file : Aead → List ℕ → Option OpenedFile
 open_file a s = cond (legal_file s) (opened_table s (unframed a (file_nonce (seal_of s)) s)) none
 
--- ---- as the code hands it over: the head as an enum, and the table beside it, the empty one where nothing opened
+-- ---- as the code hands it over
 
-unfoldable pub shown_file : Option OpenedFile → FileRead
-shown_file (some f) = record { head = H.File f.version f.seal; table = f.table }
-shown_file none = record { head = H.Closed; table = empty_table }
+unfoldable pub shown_file : Option OpenedFile → Code.Option FileRead
+shown_file (some f) = Code.Some (record { version = f.version; seal = f.seal; table = f.table })
+shown_file none = Code.None

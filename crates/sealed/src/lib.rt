@@ -1,9 +1,9 @@
 // Log records and checkpoint files (01, Layouts): sealed into the start of a lent buffer, and opened from a slice.
 //
 // Both are a text in a frame: a head of 20 bytes, which is authenticated, the ciphertext, its tag, and a trailer that
-// holds the whole length. The key is lent as its two prepared parts (see gcm), whatever they are. Sealing writes the text
+// holds the whole length. The key is lent prepared (see gcm), whatever it is. Sealing writes the text
 // to its place in the lent buffer, from byte 20 on, and encrypts it there (02, CR 3): no other buffer holds it. Opening
-// hands the numbers over as an enum, and the text or the table beside it.
+// gives what was read, or `None`.
 #![tactic(auto)]
 
 pub mod file;

@@ -1,69 +1,52 @@
 // The state that a call is handed, and what a call hands back (01, Vault and stores; Numbers on the display).
 //
-// The tests take the parts of a state that they look at and not the whole of it: a state is some 8 KB, and passing it is
-// copying it.
+// The tests are lent the state: it is some 8 KB, and passing it is copying it.
 #![tactic(auto)]
 
 ghost use Rattle.std.specs.Prelude.{◌≡◌};
-ghost use Rattle.protocol.specs.States.{serving, is_nothing, with_vault, valid_by, ready_by};
+ghost use Rattle.protocol.specs.States.{serving, is_nothing, valid, ready};
 ghost use Rattle.protocol.specs.Said.{refused_with, taken_with};
 ghost use Rattle.protocol.specs.Accept.{is_record};
 
-use protocol::{Answer, Due, LISTED, Outcome, POINTS, Phase, Refusal, State, Store, Vault};
+use protocol::{Answer, Due, LISTED, POINTS, Phase, Refusal, State, Store, Taken};
 
 // Whether a collector of this phase is in service.
 pub fn serving(phase: Phase) -> bool
     ensures { result ≡ serving phase }
 {
-    match phase {
-        Phase::Cold => false,
-        Phase::Recovering => false,
-        Phase::Serving => true,
-    }
+    matches!(phase, Phase::Serving)
 }
 
 // Whether no store is due.
 pub fn is_nothing(due: Due) -> bool
     ensures { result ≡ is_nothing due }
 {
-    match due {
-        Due::Nothing => true,
-        Due::Record => false,
-        Due::Checkpoint { step } => false,
-        Due::Truncate { position, step } => false,
-        Due::Recover { step } => false,
-    }
+    matches!(due, Due::Nothing)
 }
 
 // Whether the record of a transaction that is held is due.
 pub fn is_record(due: Due) -> bool
     ensures { result ≡ is_record due }
 {
-    match due {
-        Due::Nothing => false,
-        Due::Record => true,
-        Due::Checkpoint { step } => false,
-        Due::Truncate { position, step } => false,
-        Due::Recover { step } => false,
-    }
+    matches!(due, Due::Record)
 }
 
-// Whether a state of these vault numbers, with so many listed records and points, may be handed over.
-pub fn valid(x: Vault, listed: usize, pointed: usize) -> bool
-    ensures { result ≡ valid_by x listed pointed }
+// Whether a state may be handed over: the vault's numbers keep Load's rule, and no more records and points are listed than
+// there is room for.
+#[tactic(auto, unfolding(protocol::specs::States::valid))]
+pub fn valid(c: &State) -> bool
+    ensures { result ≡ valid c.now }
 {
-    let fine = vault::vault_ok(x);
-    fine & (listed <= LISTED) & (pointed <= POINTS)
+    let fine = vault::vault_ok(c.vault);
+    fine & (c.journal.count <= LISTED) & (c.points.count <= POINTS)
 }
 
 // Whether it is also in service with no store due.
-pub fn ready(x: Vault, phase: Phase, due: Due, listed: usize, pointed: usize) -> bool
-    ensures { result ≡ ready_by x phase due listed pointed }
+#[tactic(auto, unfolding(protocol::specs::States::valid, protocol::specs::States::ready))]
+pub fn ready(c: &State) -> bool
+    ensures { result ≡ ready c.now }
 {
-    let fine = valid(x, listed, pointed);
-    let on = serving(phase);
-    let free = is_nothing(due);
-    fine & on & free
+    valid(c) & serving(c.phase) & is_nothing(c.due)
 }
 
 // A call is turned down: the state as it came, and why.
@@ -72,7 +55,7 @@ pub fn refused(c: State, why: Refusal) -> Answer
 {
     Answer {
         state: c,
-        outcome: Outcome::Refused { why },
+        outcome: Err(why),
     }
 }
 
@@ -82,31 +65,6 @@ pub fn taken(c: State, store: Store, len: usize) -> Answer
 {
     Answer {
         state: c,
-        outcome: Outcome::Taken { store, len },
+        outcome: Ok(Taken { store, len }),
     }
-}
-
-// A call is taken that sets a vault number or puts bytes out: the state with these vault numbers and this store due, the
-// store named, and how many bytes were put out. The answer is built in place.
-pub fn stored(c: State, x: Vault, due: Due, store: Store, len: usize) -> Answer
-    ensures { result ≡ taken_with (with_vault c x due) store len }
-{
-    let phase = c.phase;
-    let table = c.table;
-    let journal = c.journal;
-    let points = c.points;
-    let held = c.held;
-    let key = c.key;
-    let state = State {
-        vault: x,
-        phase,
-        due,
-        table,
-        journal,
-        points,
-        held,
-        key,
-    };
-    let outcome = Outcome::Taken { store, len };
-    Answer { state, outcome }
 }

@@ -1,29 +1,35 @@
 -- Each way out of one store's step (01, Operations) is the definition's.
 -- Assumes nothing.
+use Rattle.std.specs.Prelude.{Bool, true, false, cond, Option, Some, None, Result, Ok, Err}
 use Prim.Native.Nat.{ℕ, suc, ◌+◌, ◌≤◌, ◌<◌}
-use mathlib.Core.Path.{◌≡◌, ap, ◌∙◌}
-use mathlib.Core.Bool.{true, false, not}
+use mathlib.Core.Path.{◌≡◌, refl, sym, ◌∙◌}
 use mathlib.Core.List.{List, []}
 use native.Mathlib.Numerals.{add-one}
 use native.Mathlib.Omega.{arith}
-use borrow.Author.Tests.{le-leb, lt-leb, lt-ltb, le-ltb}
-use lib.Dec.{leb}
+use borrow.Author.Tests.{le-leb, lt-leb}
+use lib.Dec.{leb, ltb}
 use lib.ListN.{length}
 use Rattle.octets.specs.Lists.{put_over}
-use Rattle.gcm.specs.Key.{prepared}
-use Rattle.gcm.specs.declared.Key.{Key}
 use Rattle.transaction.specs.Transaction.{meters}
 use Rattle.table.specs.declared.Table.{Table}
 use Rattle.table.specs.TableText.{table_text}
 use Rattle.table.proofs.TextLaws.{length_table}
-use Rattle.sealed.specs.Aead.{aes_gcm, prepared_by}
+use Rattle.sealed.specs.Aead.{aes_gcm}
+use Rattle.sealed.specs.declared.file.Short.{Short}
 use Rattle.sealed.specs.Checkpoint.{file_len, file_head, file_nonce, file_bytes, file_answer, file_put}
 use Rattle.sealed.proofs.FrameTrip.{aes_grows, length_framed}
-use Rattle.sealed.proofs.FileLaws.{length_head, prepared_file_bytes}
+use Rattle.sealed.proofs.FileLaws.{length_head}
 use Rattle.protocol.specs.Vaults.{counter_max}
 use Rattle.protocol.specs.States.{with_vault}
 use Rattle.protocol.specs.Said.{refuse, number_of, values_of, shown, shown_as, refused_with, taken_with}
-use Rattle.protocol.specs.Steps.{stands_if, stepped, table_file, file_step}
+use Rattle.table.specs.Table.{lanes}
+use Rattle.protocol.specs.Steps.{stands_if, raise_s, raise_n, raise_e, put_r, put_v, stepped, table_file, file_step}
+use Rattle.protocol.specs.History.{vault_after}
+use Rattle.steps.specs.Numbers.{counter_of, counter_store, lane_store, raise, put}
+use Rattle.steps.specs.declared.Counter.{Counter}
+use Rattle.steps.specs.declared.Counter.TheVariants as C
+use Rattle.steps.specs.declared.LaneCounter.{LaneCounter}
+use Rattle.steps.specs.declared.LaneCounter.TheVariants as L
 use Rattle.protocol.specs.declared.Vault.{Vault}
 use Rattle.protocol.specs.declared.State.{State}
 use Rattle.protocol.specs.declared.Due.{Due}
@@ -34,16 +40,8 @@ use Rattle.protocol.specs.declared.Refusal.TheVariants as R
 
 -- ---- a table's file
 
--- put out under a prepared key it is put out under the key
-pub sealed_under : (key o : List ℕ) (k : Key) (version seal : ℕ) (t : Table) {q : List ℕ} → k ≡ prepared key
-    → q ≡ put_over (file_put (file_answer (length o)) (file_bytes (prepared_by k.schedule k.multiples) version seal t)) o
-    → q ≡ put_over (file_put (file_answer (length o)) (file_bytes (aes_gcm key) version seal t)) o
-sealed_under key o k version seal t ek e =
-    e ∙ ap (λ (f : List ℕ). put_over (file_put (file_answer (length o)) f) o)
-    (ap (λ (j : Key). file_bytes (prepared_by j.schedule j.multiples) version seal t) ek ∙ prepared_file_bytes key version seal t)
-
 -- whatever its entries are, it has the length of a file
-length_put : (key : List ℕ) (version seal : ℕ) (t : Table) → length t.entries ≡ meters → length (file_bytes (aes_gcm key) version seal t) ≡ file_len
+pub length_put : (key : List ℕ) (version seal : ℕ) (t : Table) → length t.entries ≡ meters → length (file_bytes (aes_gcm key) version seal t) ≡ file_len
 unfolding file_bytes
 length_put key version seal t long =
     let l = length_table t long in
@@ -51,24 +49,55 @@ length_put key version seal t long =
 
 -- ---- a vault number: it stands at the limit, and below it goes
 
-module _ (k n : ℕ) (x y : Vault) (next : Due) (store : Store) where
-  pub stands : k ≤ n → record { goes = false; vault = x; due = next; store = S.Nothing } ≡ stands_if (leb k n) x y next store
+module _ (k n : ℕ) (y : Vault) (next : Due) (store : Store) where
+  stands : k ≤ n → None ≡ stands_if (leb k n) y next store
   unfolding stands_if
   stands h = rw (le-leb k n h)
 
-  pub goes : n < k → record { goes = true; vault = y; due = next; store = store } ≡ stands_if (leb k n) x y next store
+  goes : n < k → Some (record { vault = y; due = next; store = store }) ≡ stands_if (leb k n) y next store
   unfolding stands_if
   goes h = rw (lt-leb k n h)
 
--- what is answered with it
-module _ (c : State) (s : Step) where
-  pub step_stands : not s.goes ≡ true → shown_as (refused_with c R.Condition) [] ≡ stepped c s
-  unfolding stepped refuse shown_as shown number_of values_of
-  step_stands h = rw h
+-- the step that names a store, where the number n is below the limit k
+abbrev step_by : ℕ → ℕ → Vault → Due → Store → Option Step
+step_by k n x next store = stands_if (leb k n) (vault_after store x) next store
 
-  pub step_goes : not s.goes ≡ false → shown_as (taken_with (with_vault c s.vault s.due) s.store 0) [] ≡ stepped c s
-  unfolding stepped refuse shown_as shown
-  step_goes h = rw h
+raise_by : (which : Counter) (x : Vault) (next : Due) → step_by counter_max (counter_of which x) x next (counter_store which (suc (counter_of which x))) ≡ raise which x next
+unfolding raise_e raise_s raise_n vault_after
+raise_by C.E x next = refl
+raise_by C.S x next = refl
+raise_by C.N x next = refl
+
+put_by : (which : LaneCounter) (x : Vault) (lane value : ℕ) (next : Due) → step_by lanes lane x next (lane_store which lane value) ≡ put which x lane value next
+unfolding put_v put_r vault_after
+put_by L.V x lane value next = refl
+put_by L.R x lane value next = refl
+
+module _ (which : Counter) (x : Vault) (next : Due) {old : ℕ} (is : old ≡ counter_of which x) where
+  pub raise_stands : counter_max ≤ old → None ≡ raise which x next
+  raise_stands h = stands counter_max (counter_of which x) _ next _ (rw is at h) ∙ raise_by which x next
+
+  pub raise_goes : old < counter_max → {store : Store} {y : Vault} → store ≡ counter_store which (old + 1) → y ≡ vault_after store x
+      → Some (record { vault = y; due = next; store = store }) ≡ raise which x next
+  raise_goes h s v = rw (v, s, is, add-one (counter_of which x)) (goes counter_max (counter_of which x) _ next _ (rw is at h) ∙ raise_by which x next)
+
+module _ (which : LaneCounter) (x : Vault) (lane value : ℕ) (next : Due) where
+  pub put_stands : lanes ≤ lane → None ≡ put which x lane value next
+  put_stands h = stands lanes lane _ next _ h ∙ put_by which x lane value next
+
+  pub put_goes : lane < lanes → {store : Store} {y : Vault} → store ≡ lane_store which lane value → y ≡ vault_after store x
+      → Some (record { vault = y; due = next; store = store }) ≡ put which x lane value next
+  put_goes h s v = rw (v, s) (goes lanes lane _ next _ h ∙ put_by which x lane value next)
+
+-- ---- what is answered with the step of a vault number, and without one
+
+pub step_none : (c : State) {o : Option Step} → o ≡ None → shown_as (refused_with c R.Condition) [] ≡ stepped c o
+unfolding stepped shown_as shown number_of values_of
+step_none c e = rw e
+
+pub step_some : (c : State) {o : Option Step} (s : Step) → o ≡ Some s → shown_as (taken_with (with_vault c s.vault s.due) s.store 0) [] ≡ stepped c o
+unfolding stepped shown_as shown
+step_some c s e = rw e
 
 -- ---- the file, over a buffer o
 
@@ -79,22 +108,37 @@ module _ (c : State) (next : Due) where
     unfolding shown_as shown number_of values_of file_step refuse
     file_spent h = let e = le-leb counter_max c.vault.s h in (rw e, rw e)
 
-    module _ (good : c.vault.s < counter_max) where
-      pub file_short : length o < file_len
-          → (shown_as (refused_with c (R.Length file_len)) (file_step c (length o) next).put ≡ file_step c (length o) next) × (o ≡ put_over (file_step c (length o) next).put o)
-      unfolding shown_as shown number_of values_of file_step refuse
-      file_short h =
-          let e = lt-leb counter_max c.vault.s good in
-          let f = lt-ltb (length o) file_len h in
-          (rw (e, f), rw (e, f))
+    -- put is what the file's sealing answered, and q the buffer behind it
+    module _ (good : c.vault.s < counter_max) {put : Result ℕ Short} (is : put ≡ file_answer (length o)) {q : List ℕ}
+        (left : q ≡ put_over (file_put (file_answer (length o)) (file_bytes (aes_gcm c.key) (c.vault.s + 1) c.vault.n c.table)) o) where
+      put_is : {b : Bool} → ltb (length o) file_len ≡ b → put ≡ cond b (Err (record { needed = file_len })) (Ok file_len)
+      unfolding file_answer
+      put_is t = is ∙ rw t
 
-      -- d is the state behind it, and q the buffer
-      pub file_taken : file_len ≤ length o → length c.table.entries ≡ meters → (d : State) (q : List ℕ) → d ≡ with_vault c c.vault next
-          → q ≡ put_over (file_put (file_answer (length o)) (file_bytes (aes_gcm c.key) (c.vault.s + 1) c.vault.n c.table)) o
-          → (shown_as (taken_with d S.File file_len) (file_step c (length o) next).put ≡ file_step c (length o) next) × (q ≡ put_over (file_step c (length o) next).put o)
-      unfolding shown_as shown file_step refuse table_file file_answer file_put
-      file_taken h long d q ed eq =
-          let e = lt-leb counter_max c.vault.s good in
-          let f = le-ltb (length o) file_len h in
-          let l = length_put c.key (suc c.vault.s) c.vault.n c.table long in
-          (rw (e, f, ed, l), eq ∙ rw (e, f, add-one c.vault.s))
+      left_is : q ≡ put_over (file_put put (file_bytes (aes_gcm c.key) (c.vault.s + 1) c.vault.n c.table)) o
+      left_is = rw is left
+
+      pub file_short : {why : Short} → put ≡ Err why
+          → (shown_as (refused_with c (R.Length file_len)) (file_step c (length o) next).put ≡ file_step c (length o) next) × (q ≡ put_over (file_step c (length o) next).put o)
+      unfolding shown_as shown number_of values_of file_step refuse file_put
+      file_short {why} h = by_test (ltb (length o) file_len) refl
+        where
+          by_test : (b : Bool) → ltb (length o) file_len ≡ b
+              → (shown_as (refused_with c (R.Length file_len)) (file_step c (length o) next).put ≡ file_step c (length o) next) × (q ≡ put_over (file_step c (length o) next).put o)
+          by_test true t = let e = lt-leb counter_max c.vault.s good in (rw (e, t), rw (e, t) (rw h at left_is))
+          by_test false t = let z = sym h ∙ put_is t in cc
+
+      pub file_taken : {n : ℕ} → put ≡ Ok n → length (file_bytes (aes_gcm c.key) (c.vault.s + 1) c.vault.n c.table) ≡ file_len
+          → (shown_as (taken_with (with_vault c c.vault next) S.File n) (file_step c (length o) next).put ≡ file_step c (length o) next) × (q ≡ put_over (file_step c (length o) next).put o)
+      unfolding shown_as shown file_step refuse table_file file_put
+      file_taken {n} h long = by_test (ltb (length o) file_len) refl
+        where
+          by_test : (b : Bool) → ltb (length o) file_len ≡ b
+              → (shown_as (taken_with (with_vault c c.vault next) S.File n) (file_step c (length o) next).put ≡ file_step c (length o) next) × (q ≡ put_over (file_step c (length o) next).put o)
+          by_test true t = let z = sym h ∙ put_is t in cc
+          by_test false t =
+              let e = lt-leb counter_max c.vault.s good in
+              let z = sym h ∙ put_is t in
+              let k : n ≡ file_len = cc in
+              let g = rw h at left_is in
+              (rw (e, t, k, ← add-one c.vault.s, long), rw (e, t, ← add-one c.vault.s) g)

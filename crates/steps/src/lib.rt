@@ -2,177 +2,155 @@
 // which store is due behind it. Checkpoint, Truncate and Recover are made of these.
 #![tactic(auto)]
 
-ghost use Rattle.std.specs.Prelude.{◌≡◌, length};
+ghost use Rattle.std.specs.Prelude.{◌≡◌, [], length};
 ghost use Rattle.octets.specs.Lists.{put_over};
 ghost use Rattle.sealed.specs.Aead.{aes_gcm};
-ghost use Rattle.sealed.specs.Checkpoint.{file_bytes, file_answer, file_put};
+ghost use Rattle.sealed.specs.Checkpoint.{file_len, file_bytes, file_answer, file_put};
 ghost use Rattle.protocol.specs.Said.{shown_as};
-ghost use Rattle.protocol.specs.Steps.{raise_s, raise_n, raise_e, put_r, put_v, file_step};
+ghost use Rattle.protocol.specs.Steps.{stepped, file_step};
+ghost use Rattle.steps.specs.Numbers.{counter_of, counter_store, lane_store, raise, put};
 
-use protocol::{Answer, Due, Outcome, Refusal, State, Step, Store, Vault};
-use sealed::file::{FILE_LEN, FilePut};
+use protocol::{Due, Outcome, Refusal, State, Step, Store, Taken, Vault};
+use sealed::file::{FILE_LEN, Short};
 use table::{LANES, Table};
 use vault::COUNTER_MAX;
 
-// S + 1; not where S is at the maximum.
-pub fn raise_s(x: Vault, next: Due) -> Step
-    ensures { result ≡ raise_s x next }
-{
-    let s = x.s;
-    if COUNTER_MAX <= s {
-        return Step {
-            goes: false,
-            vault: x,
-            due: next,
-            store: Store::Nothing,
-        };
+// A number of the vault that rises by one.
+#[derive(Clone, Copy, PartialEq, Eq)]
+pub enum Counter {
+    E,
+    S,
+    N,
+}
+
+impl Counter {
+    // The number, of the vault's.
+    fn of(self, x: Vault) -> u64
+        ensures { result ≡ counter_of self x }
+    {
+        match self {
+            Counter::E => x.e,
+            Counter::S => x.s,
+            Counter::N => x.n,
+        }
     }
-    let value = s + 1;
-    let raised = vault::set_s(x, value);
-    Step {
-        goes: true,
-        vault: raised,
-        due: next,
-        store: Store::S { value },
+
+    // The store that sets it.
+    fn store(self, value: u64) -> Store
+        ensures { result ≡ counter_store self value }
+    {
+        match self {
+            Counter::E => Store::E { value },
+            Counter::S => Store::S { value },
+            Counter::N => Store::N { value },
+        }
     }
 }
 
-// N + 1; not where N is at the maximum.
-pub fn raise_n(x: Vault, next: Due) -> Step
-    ensures { result ≡ raise_n x next }
-{
-    let n = x.n;
-    if COUNTER_MAX <= n {
-        return Step {
-            goes: false,
-            vault: x,
-            due: next,
-            store: Store::Nothing,
-        };
-    }
-    let value = n + 1;
-    let raised = vault::set_n(x, value);
-    Step {
-        goes: true,
-        vault: raised,
-        due: next,
-        store: Store::N { value },
+// A number of a lane that is set.
+#[derive(Clone, Copy, PartialEq, Eq)]
+pub enum LaneCounter {
+    V,
+    R,
+}
+
+impl LaneCounter {
+    // The store that sets it.
+    fn store(self, lane: u8, value: u64) -> Store
+        ensures { result ≡ lane_store self lane value }
+    {
+        match self {
+            LaneCounter::V => Store::V { lane, value },
+            LaneCounter::R => Store::R { lane, value },
+        }
     }
 }
 
-// E + 1; not where E is at the maximum.
-pub fn raise_e(x: Vault, next: Due) -> Step
-    ensures { result ≡ raise_e x next }
+// E + 1, S + 1 or N + 1; not where that number is at the maximum.
+pub fn raise(x: Vault, which: Counter, next: Due) -> Option<Step>
+    ensures { result ≡ raise which x next }
 {
-    let e = x.e;
-    if COUNTER_MAX <= e {
-        return Step {
-            goes: false,
-            vault: x,
-            due: next,
-            store: Store::Nothing,
-        };
+    let old = which.of(x);
+    if COUNTER_MAX <= old {
+        return None;
     }
-    let value = e + 1;
-    let raised = vault::set_e(x, value);
-    Step {
-        goes: true,
+    let store = which.store(old + 1);
+    let raised = vault::after(x, store);
+    Some(Step {
         vault: raised,
         due: next,
-        store: Store::E { value },
-    }
+        store,
+    })
 }
 
-// R of a lane; not where there is no such lane.
-pub fn put_r(x: Vault, lane: u8, value: u64, next: Due) -> Step
-    ensures { result ≡ put_r x lane value next }
+// V or R of a lane; not where there is no such lane.
+pub fn put(x: Vault, which: LaneCounter, lane: u8, value: u64, next: Due) -> Option<Step>
+    ensures { result ≡ put which x lane value next }
 {
     if LANES <= lane {
-        return Step {
-            goes: false,
-            vault: x,
-            due: next,
-            store: Store::Nothing,
-        };
+        return None;
     }
-    let raised = vault::set_r(x, lane, value);
-    Step {
-        goes: true,
-        vault: raised,
+    let store = which.store(lane, value);
+    let set = vault::after(x, store);
+    Some(Step {
+        vault: set,
         due: next,
-        store: Store::R { lane, value },
-    }
+        store,
+    })
 }
 
-// V of a lane; not where there is no such lane.
-pub fn put_v(x: Vault, lane: u8, value: u64, next: Due) -> Step
-    ensures { result ≡ put_v x lane value next }
+// A call that takes the step of a vault number: its numbers, the store due behind it and the store named. Without a step it
+// is refused (1), and the state stays as it is.
+#[tactic(auto, unfolding(protocol::specs::Steps::stepped, protocol::specs::Said::shown_as, protocol::specs::Said::shown, protocol::specs::Said::number_of, protocol::specs::Said::values_of))]
+pub fn stepped(c: &mut State, step: Option<Step>) -> Outcome
+    ensures { shown_as (record { state = c.new; outcome = result }) [] ≡ stepped c.old step }
 {
-    if LANES <= lane {
-        return Step {
-            goes: false,
-            vault: x,
-            due: next,
-            store: Store::Nothing,
-        };
-    }
-    let raised = vault::set_v(x, lane, value);
-    Step {
-        goes: true,
-        vault: raised,
-        due: next,
-        store: Store::V { lane, value },
-    }
+    let Some(set) = step else {
+        return Err(Refusal::Condition);
+    };
+    c.vault = set.vault;
+    c.due = set.due;
+    Ok(Taken {
+        store: set.store,
+        len: 0,
+    })
 }
 
 // Seals a table under a key as a checkpoint file at the start of out. It refuses an output with no room; out is then
 // as it came.
-pub fn put_table(key: [u8; 16], version: u64, seal: u64, t: Table, out: &mut [u8]) -> FilePut
+pub fn put_table(
+    key: [u8; 16],
+    version: u64,
+    seal: u64,
+    t: Table,
+    out: &mut [u8],
+) -> Result<usize, Short>
     ensures answer { result ≡ file_answer (length out.old) }
     ensures buffer { out.new ≡ put_over (file_put (file_answer (length out.old)) (file_bytes (aes_gcm key) version seal t)) out.old }
+    ensures long { length (file_bytes (aes_gcm key) version seal t) ≡ file_len }
 {
-    let mut multiples = [0u64; gcm::MULTIPLES_LEN];
-    let schedule = gcm::prepare_in(key, &mut multiples);
-    sealed::file::seal_file(&schedule, &multiples, version, seal, t, out)
+    let key = gcm::prepare(key);
+    sealed::file::seal_file(key.lend(), version, seal, t, out)
 }
 
 // Puts the file out, with version S + 1 and N as its seal number. It refuses an S at the maximum (1), and an output
-// with no room for the file (3). The answer is built here, around the table that is sealed, as Recover's is: measured, and
-// not by state::stored (docs/DECISIONS.md, Sealing in place).
-pub fn file_step(c: State, next: Due, out: &mut [u8]) -> Answer
-    ensures answer { shown_as result (file_step c (length out.old) next).put ≡ file_step c (length out.old) next }
-    ensures bytes { out.new ≡ put_over (file_step c (length out.old) next).put out.old }
+// with no room for the file (3); the state then stays as it is.
+pub fn file_step(c: &mut State, next: Due, out: &mut [u8]) -> Outcome
+    ensures answer { shown_as (record { state = c.new; outcome = result }) (file_step c.old (length out.old) next).put ≡ file_step c.old (length out.old) next }
+    ensures bytes { out.new ≡ put_over (file_step c.old (length out.old) next).put out.old }
 {
-    let x = c.vault;
-    let s = x.s;
+    let s = c.vault.s;
     if COUNTER_MAX <= s {
-        return state::refused(c, Refusal::Condition);
+        return Err(Refusal::Condition);
     }
-    if out.len() < FILE_LEN {
-        return state::refused(c, Refusal::Length { right: FILE_LEN });
-    }
-    let key = c.key;
     let version = s + 1;
-    let seal = x.n;
-    let table = c.table;
-    put_table(key, version, seal, table, out);
-    let phase = c.phase;
-    let journal = c.journal;
-    let points = c.points;
-    let held = c.held;
-    let state = State {
-        vault: x,
-        phase,
-        due: next,
-        table,
-        journal,
-        points,
-        held,
-        key,
+    let seal = c.vault.n;
+    let Ok(len) = put_table(c.key, version, seal, c.table, out) else {
+        return Err(Refusal::Length { right: FILE_LEN });
     };
-    let outcome = Outcome::Taken {
+    c.due = next;
+    Ok(Taken {
         store: Store::File,
-        len: FILE_LEN,
-    };
-    Answer { state, outcome }
+        len,
+    })
 }

@@ -1,23 +1,23 @@
 -- The numbers that the boundary answers in: 0 done; 1 the key is not 16 bytes or the nonce not 12; 2 the lent buffer is too short;
 -- 3 a length beyond SP 800-38D; 4 FAIL. Where it is not 0, the lent buffer is as it came.
 -- Assumes nothing.
-use Rattle.std.specs.Prelude.{ℕ, cond, List, eqb, length}
-use Rattle.gcm.specs.declared.Sealing.{Sealing}
-use Rattle.gcm.specs.declared.Sealing.TheVariants as S
-use Rattle.gcm.specs.declared.Opening.{Opening}
-use Rattle.gcm.specs.declared.Opening.TheVariants as O
+use Rattle.std.specs.Prelude.{ℕ, cond, List, eqb, length, Result, Ok, Err}
+use Rattle.gcm.specs.declared.SealError.{SealError}
+use Rattle.gcm.specs.declared.SealError.TheVariants as S
+use Rattle.gcm.specs.declared.OpenError.{OpenError}
+use Rattle.gcm.specs.declared.OpenError.TheVariants as O
 use Rattle.gcm.specs.Answers.{sealing, sealed_in, opening, opened_in}
 
-abbrev pub seal_code : Sealing → ℕ
-seal_code S.Done = 0
-seal_code (S.Short n) = 2
-seal_code S.Long = 3
+abbrev pub seal_code : Result (Unit {0}) SealError → ℕ
+seal_code (Ok done) = 0
+seal_code (Err (S.Short n)) = 2
+seal_code (Err S.Long) = 3
 
-abbrev pub open_code : Opening → ℕ
-open_code (O.Text n) = 0
-open_code (O.Short n) = 2
-open_code O.Long = 3
-open_code O.Fail = 4
+abbrev pub open_code : Result ℕ OpenError → ℕ
+open_code (Ok n) = 0
+open_code (Err (O.Short n)) = 2
+open_code (Err O.Long) = 3
+open_code (Err O.Fail) = 4
 
 module _ (ciph : List ℕ → List ℕ) (dot : ℕ → ℕ) (iv a : List ℕ) where
   -- sealing the first n bytes of s: the answer, and s after it

@@ -9,47 +9,41 @@ ghost use Rattle.ghash.specs.Multiples.{product_by};
 ghost use Rattle.gcm.specs.Key.{prepared};
 ghost use Rattle.test_cipher.specs.Boundary.{seal_code, open_code, seal_number, seal_buffer, open_number, open_buffer};
 
-use gcm::{Opening, Sealing};
+use gcm::{KeyRef, OpenError, SealError};
 
-// The number of an answer.
-fn seal_code(answer: Sealing) -> u64
+// The number of an answer. Numbers, and not the enums, since C reads them.
+fn seal_code(answer: Result<(), SealError>) -> u64
     ensures { result ≡ seal_code answer }
 {
     match answer {
-        Sealing::Done => 0,
-        Sealing::Short(_) => 2,
-        Sealing::Long => 3,
+        Ok(()) => 0,
+        Err(SealError::Short(_)) => 2,
+        Err(SealError::Long) => 3,
     }
 }
 
-fn open_code(answer: Opening) -> u64
+fn open_code(answer: Result<usize, OpenError>) -> u64
     ensures { result ≡ open_code answer }
 {
     match answer {
-        Opening::Text(_) => 0,
-        Opening::Short(_) => 2,
-        Opening::Long => 3,
-        Opening::Fail => 4,
+        Ok(_) => 0,
+        Err(OpenError::Short(_)) => 2,
+        Err(OpenError::Long) => 3,
+        Err(OpenError::Fail) => 4,
     }
 }
 
-// Prepares a key: 0, or 1 where it is not 16 bytes long.
+// Prepares a key: 0, or 1 where it is not 16 bytes long. `test_sealed` exports the same under its own name.
 #[unsafe(no_mangle)]
 pub extern "C" fn cipher_prepare(key: &[u8], w: &mut [u32; 44], m: &mut [u64; 1024]) -> u64
     ensures answer { result ≡ cond (eqb (length key.now) 16) 0 1 }
     ensures schedule { w.new ≡ cond (eqb (length key.now) 16) (prepared key.now).schedule w.old }
     ensures multiples { m.new ≡ cond (eqb (length key.now) 16) (prepared key.now).multiples m.old }
 {
-    if key.len() != 16 {
+    let Ok(key) = <[u8; 16]>::try_from(key) else {
         return 1;
-    }
-    let mut k = [0u8; 16];
-    octets::copy(key, &mut k);
-    let p = gcm::prepare(k);
-    let schedule = p.schedule;
-    let multiples = p.multiples;
-    *w = schedule;
-    *m = multiples;
+    };
+    *w = gcm::prepare_in(key, m);
     0
 }
 
@@ -66,12 +60,14 @@ pub extern "C" fn cipher_seal<'a>(
     ensures answer { result ≡ seal_number (cipher w.now) (product_by m.now) iv.now aad.now n buf.old }
     ensures buffer { buf.new ≡ seal_buffer (cipher w.now) (product_by m.now) iv.now aad.now n buf.old }
 {
-    if iv.len() != 12 {
+    let Ok(iv) = <[u8; 12]>::try_from(iv) else {
         return 1;
-    }
-    let mut nonce = [0u8; 12];
-    octets::copy(iv, &mut nonce);
-    seal_code(gcm::seal_with(w, m, nonce, aad, buf, n))
+    };
+    let key = KeyRef {
+        schedule: w,
+        multiples: m,
+    };
+    seal_code(key.seal(iv, aad, buf, n))
 }
 
 // Opens a ciphertext with its tag behind it into the start of out.
@@ -87,10 +83,12 @@ pub extern "C" fn cipher_open<'a>(
     ensures answer { result ≡ open_number (cipher w.now) (product_by m.now) iv.now aad.now s.now out.old }
     ensures buffer { out.new ≡ open_buffer (cipher w.now) (product_by m.now) iv.now aad.now s.now out.old }
 {
-    if iv.len() != 12 {
+    let Ok(iv) = <[u8; 12]>::try_from(iv) else {
         return 1;
-    }
-    let mut nonce = [0u8; 12];
-    octets::copy(iv, &mut nonce);
-    open_code(gcm::open_with(w, m, nonce, aad, s, out))
+    };
+    let key = KeyRef {
+        schedule: w,
+        multiples: m,
+    };
+    open_code(key.open(iv, aad, s, out))
 }

@@ -2,42 +2,49 @@
 -- text is not a transaction, or not a table; 5 there is no such lane; 9 the bytes do not open. Where something that is put out is refused,
 -- the lent buffer is as it came.
 -- Assumes nothing.
-use Rattle.std.specs.Prelude.{ℕ, zero, suc, ◌*◌, ◌/◌, cond, List, length, take, drop}
+use Rattle.std.specs.Prelude.{ℕ, zero, suc, ◌*◌, ◌/◌, cond, List, length, take, drop, replicate, Option, Some, None, Result, Ok, Err}
 use Rattle.octets.specs.Lists.{over, put_over}
 use Rattle.transaction.specs.Transaction.{max_text, legal}
 use Rattle.table.specs.declared.Table.{Table}
-use Rattle.table.specs.Table.{entered}
+use Rattle.table.specs.Table.{empty_table, entered}
 use Rattle.table.specs.TableText.{table_text, is_table, table_from}
 use Rattle.sealed.specs.Aead.{Aead}
 use Rattle.sealed.specs.Checkpoint.{file_answer, file_put, file_bytes}
-use Rattle.sealed.specs.declared.record.RecordPut.{RecordPut}
-use Rattle.sealed.specs.declared.record.RecordPut.TheVariants as RP
-use Rattle.sealed.specs.declared.record.RecordHead.{RecordHead}
-use Rattle.sealed.specs.declared.record.RecordHead.TheVariants as RH
-use Rattle.sealed.specs.declared.file.FilePut.{FilePut}
-use Rattle.sealed.specs.declared.file.FilePut.TheVariants as FP
-use Rattle.sealed.specs.declared.file.FileHead.{FileHead}
-use Rattle.sealed.specs.declared.file.FileHead.TheVariants as FH
+use Rattle.sealed.specs.declared.record.RecordError.{RecordError}
+use Rattle.sealed.specs.declared.record.RecordError.TheVariants as E
+use Rattle.sealed.specs.declared.record.RecordRead.{RecordRead}
+use Rattle.sealed.specs.declared.file.Short.{Short}
+use Rattle.sealed.specs.declared.file.FileRead.{FileRead}
 use Rattle.test_sealed.specs.declared.RecordReply.{RecordReply}
 use Rattle.test_sealed.specs.declared.FileReply.{FileReply}
 
-abbrev pub record_code : RecordPut → ℕ
-record_code (RP.Done n) = 0
-record_code (RP.Short n) = 3
-record_code RP.Text = 4
-record_code RP.Lane = 5
+abbrev pub record_code : Result ℕ RecordError → ℕ
+record_code (Ok n) = 0
+record_code (Err (E.Short n)) = 3
+record_code (Err E.Text) = 4
+record_code (Err E.Lane) = 5
 
-abbrev pub file_code : FilePut → ℕ
-file_code (FP.Done n) = 0
-file_code (FP.Short n) = 3
+abbrev pub file_code : Result ℕ Short → ℕ
+file_code (Ok n) = 0
+file_code (Err e) = 3
 
-abbrev pub record_reply : RecordHead → RecordReply
-record_reply (RH.Record lane epoch number len) = record { code = 0; lane = lane; epoch = epoch; number = number; len = len }
-record_reply RH.Closed = record { code = 9; lane = 0; epoch = 0; number = 0; len = 0 }
+-- what is handed over of a record: its numbers, and the bytes that are put over the start of the lent text; zeros where nothing opened
+abbrev pub record_reply : Option RecordRead → RecordReply
+record_reply (Some r) = record { code = 0; lane = r.lane; epoch = r.epoch; number = r.number; len = r.len }
+record_reply None = record { code = 9; lane = 0; epoch = 0; number = 0; len = 0 }
 
-abbrev pub file_reply : FileHead → FileReply
-file_reply (FH.File version seal) = record { code = 0; version = version; seal = seal }
-file_reply FH.Closed = record { code = 9; version = 0; seal = 0 }
+abbrev pub record_text : Option RecordRead → List ℕ
+record_text (Some r) = r.text
+record_text None = replicate max_text 0
+
+-- and of a file: its numbers, and the text of its table; the empty table's where nothing opened
+abbrev pub file_reply : Option FileRead → FileReply
+file_reply (Some f) = record { code = 0; version = f.version; seal = f.seal }
+file_reply None = record { code = 9; version = 0; seal = 0 }
+
+abbrev pub file_text : Option FileRead → List ℕ
+file_text (Some f) = table_text f.table
+file_text None = table_text empty_table
 
 -- sealing the table of a text into out: the answer, and out after it
 unfoldable pub put_file_number : List ℕ → List ℕ → ℕ

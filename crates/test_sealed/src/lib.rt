@@ -6,16 +6,17 @@
 ghost use Rattle.std.specs.Prelude.{◌≡◌, cond, eqb, length};
 ghost use Rattle.gcm.specs.Key.{prepared};
 ghost use Rattle.octets.specs.Lists.{over, put_over};
-ghost use Rattle.table.specs.TableText.{table_text};
 ghost use Rattle.sealed.specs.Aead.{prepared_by};
 ghost use Rattle.sealed.specs.Record.{record_answer, record_put, record_bytes, open_record, shown_record};
 ghost use Rattle.sealed.specs.Log.{record_at};
 ghost use Rattle.sealed.specs.Checkpoint.{open_file, shown_file};
-ghost use Rattle.test_sealed.specs.Boundary.{record_code, record_reply, file_code, file_reply, put_file_number, put_file_buffer, enter_number, enter_buffer, each_number, each_buffer};
+ghost use Rattle.test_sealed.specs.Boundary.{record_code, file_code, record_reply, record_text, file_reply, file_text, put_file_number, put_file_buffer, enter_number, enter_buffer, each_number, each_buffer};
 
-use sealed::file::{FileHead, FilePut};
-use sealed::record::{RecordHead, RecordPut};
+use gcm::KeyRef;
+use sealed::file::Short;
+use sealed::record::{RecordError, RecordRead};
 use sealed::{file, record};
+use transaction::MAX_TEXT;
 
 // What a record's head says: code 0 where the record opens, and else 9 with zeros.
 #[repr(C)]
@@ -37,67 +38,60 @@ pub struct FileReply {
     pub seal: u64,
 }
 
+// The two parts of a prepared key, as the caller keeps them.
+fn lent<'a>(w: &'a [u32; 44], m: &'a [u64; 1024]) -> KeyRef<'a>
+    ensures schedule { result.schedule.now ≡ w.now }
+    ensures multiples { result.multiples.now ≡ m.now }
+{
+    KeyRef {
+        schedule: w,
+        multiples: m,
+    }
+}
+
 // The numbers of the answers.
-fn record_code(answer: RecordPut) -> u64
+fn record_code(answer: Result<usize, RecordError>) -> u64
     ensures { result ≡ record_code answer }
 {
     match answer {
-        RecordPut::Done(_) => 0,
-        RecordPut::Short(_) => 3,
-        RecordPut::Text => 4,
-        RecordPut::Lane => 5,
+        Ok(_) => 0,
+        Err(RecordError::Short(_)) => 3,
+        Err(RecordError::Text) => 4,
+        Err(RecordError::Lane) => 5,
     }
 }
 
-fn file_code(answer: FilePut) -> u64
+fn file_code(answer: Result<usize, Short>) -> u64
     ensures { result ≡ file_code answer }
 {
     match answer {
-        FilePut::Done(_) => 0,
-        FilePut::Short(_) => 3,
+        Ok(_) => 0,
+        Err(_) => 3,
     }
 }
 
-fn record_reply(head: RecordHead) -> RecordReply
-    ensures { result ≡ record_reply head }
+// Hands over what a record holds: its numbers, and the bytes of its text over the start of text; zeros where nothing opens.
+fn hand_record(read: Option<RecordRead>, text: &mut [u8]) -> RecordReply
+    ensures answer { result ≡ record_reply read }
+    ensures buffer { text.new ≡ over (record_text read) text.old }
 {
-    match head {
-        RecordHead::Record {
-            lane,
-            epoch,
-            number,
-            len,
-        } => RecordReply {
-            code: 0,
-            lane: lane as u64,
-            epoch,
-            number,
-            len: len as u64,
-        },
-        RecordHead::Closed => RecordReply {
+    let Some(r) = read else {
+        octets::copy(&[0u8; MAX_TEXT], text);
+        return RecordReply {
             code: 9,
             lane: 0,
             epoch: 0,
             number: 0,
             len: 0,
-        },
-    }
-}
-
-fn file_reply(head: FileHead) -> FileReply
-    ensures { result ≡ file_reply head }
-{
-    match head {
-        FileHead::File { version, seal } => FileReply {
-            code: 0,
-            version,
-            seal,
-        },
-        FileHead::Closed => FileReply {
-            code: 9,
-            version: 0,
-            seal: 0,
-        },
+        };
+    };
+    octets::copy(&r.text, text);
+    RecordReply {
+        code: 0,
+        lane: r.lane as u64,
+        epoch: r.epoch,
+        number: r.number,
+        len: r.len as u64,
     }
 }
 
@@ -108,16 +102,10 @@ pub extern "C" fn sealed_prepare(key: &[u8], w: &mut [u32; 44], m: &mut [u64; 10
     ensures schedule { w.new ≡ cond (eqb (length key.now) 16) (prepared key.now).schedule w.old }
     ensures multiples { m.new ≡ cond (eqb (length key.now) 16) (prepared key.now).multiples m.old }
 {
-    if key.len() != 16 {
+    let Ok(key) = <[u8; 16]>::try_from(key) else {
         return 1;
-    }
-    let mut k = [0u8; 16];
-    octets::copy(key, &mut k);
-    let p = gcm::prepare(k);
-    let schedule = p.schedule;
-    let multiples = p.multiples;
-    *w = schedule;
-    *m = multiples;
+    };
+    *w = gcm::prepare_in(key, m);
     0
 }
 
@@ -135,7 +123,8 @@ pub extern "C" fn sealed_put_record<'a>(
     ensures answer { result ≡ record_code (record_answer text.now lane (length out.old)) }
     ensures buffer { out.new ≡ put_over (record_put (record_answer text.now lane (length out.old)) (record_bytes (prepared_by w.now m.now) lane epoch number text.now)) out.old }
 {
-    record_code(record::seal_record(w, m, lane, epoch, number, text, out))
+    let key = lent(w, m);
+    record_code(record::seal_record(key, lane, epoch, number, text, out))
 }
 
 // Opens all of s as a record, and puts the 136 bytes of its text, zeros behind the transaction, over the start of text.
@@ -146,14 +135,10 @@ pub extern "C" fn sealed_open_record<'a>(
     s: &[u8],
     text: &mut [u8],
 ) -> RecordReply
-    ensures answer { result ≡ record_reply (shown_record (open_record (prepared_by w.now m.now) s.now)).head }
-    ensures buffer { text.new ≡ over (shown_record (open_record (prepared_by w.now m.now) s.now)).text text.old }
+    ensures answer { result ≡ record_reply (shown_record (open_record (prepared_by w.now m.now) s.now)) }
+    ensures buffer { text.new ≡ over (record_text (shown_record (open_record (prepared_by w.now m.now) s.now))) text.old }
 {
-    let read = record::open_record(w, m, s);
-    let bytes = read.text;
-    let head = read.head;
-    octets::copy(&bytes, text);
-    record_reply(head)
+    hand_record(record::open_record(lent(w, m), s), text)
 }
 
 // The same of the whole record that starts at an offset of a log.
@@ -165,14 +150,10 @@ pub extern "C" fn sealed_open_at<'a>(
     at: usize,
     text: &mut [u8],
 ) -> RecordReply
-    ensures answer { result ≡ record_reply (shown_record (record_at (prepared_by w.now m.now) log.now at)).head }
-    ensures buffer { text.new ≡ over (shown_record (record_at (prepared_by w.now m.now) log.now at)).text text.old }
+    ensures answer { result ≡ record_reply (shown_record (record_at (prepared_by w.now m.now) log.now at)) }
+    ensures buffer { text.new ≡ over (record_text (shown_record (record_at (prepared_by w.now m.now) log.now at))) text.old }
 {
-    let read = record::open_at(w, m, log, at);
-    let bytes = read.text;
-    let head = read.head;
-    octets::copy(&bytes, text);
-    record_reply(head)
+    hand_record(record::open_at(lent(w, m), log, at), text)
 }
 
 // Seals the table whose text is given as a checkpoint file at the start of out.
@@ -188,12 +169,11 @@ pub extern "C" fn sealed_put_file<'a>(
     ensures answer { result ≡ put_file_number text.now out.old }
     ensures buffer { out.new ≡ put_file_buffer (prepared_by w.now m.now) version seal text.now out.old }
 {
-    let read = table::table_in(text);
-    if !read.legal {
+    let Some(t) = table::table_in(text) else {
         return 4;
-    }
-    let t = read.table;
-    file_code(file::seal_file(w, m, version, seal, t, out))
+    };
+    let key = lent(w, m);
+    file_code(file::seal_file(key, version, seal, t, out))
 }
 
 // Opens all of s as a checkpoint file, and puts the text of its table, the empty one's where it does not open, over the
@@ -205,14 +185,24 @@ pub extern "C" fn sealed_open_file<'a>(
     s: &[u8],
     text: &mut [u8],
 ) -> FileReply
-    ensures answer { result ≡ file_reply (shown_file (open_file (prepared_by w.now m.now) s.now)).head }
-    ensures buffer { text.new ≡ over (table_text (shown_file (open_file (prepared_by w.now m.now) s.now)).table) text.old }
+    ensures answer { result ≡ file_reply (shown_file (open_file (prepared_by w.now m.now) s.now)) }
+    ensures buffer { text.new ≡ over (file_text (shown_file (open_file (prepared_by w.now m.now) s.now))) text.old }
 {
-    let read = file::open_file(w, m, s);
-    let t = read.table;
-    let head = read.head;
-    table::put_text(t, text);
-    file_reply(head)
+    let key = lent(w, m);
+    let Some(f) = file::open_file(key, s) else {
+        table::put_text(table::empty(), text);
+        return FileReply {
+            code: 9,
+            version: 0,
+            seal: 0,
+        };
+    };
+    table::put_text(f.table, text);
+    FileReply {
+        code: 0,
+        version: f.version,
+        seal: f.seal,
+    }
 }
 
 // Enters a transaction of a lane and number into the table whose text is given, and puts its text back.
@@ -221,15 +211,13 @@ pub extern "C" fn sealed_enter(text: &mut [u8], s: &[u8], lane: u8, number: u64)
     ensures answer { result ≡ enter_number text.old s.now }
     ensures buffer { text.new ≡ enter_buffer text.old s.now lane number }
 {
-    let read = table::table_in(text);
-    if !read.legal {
+    let Some(t) = table::table_in(text) else {
         return 4;
-    }
+    };
     if !transaction::legal(s) {
         return 4;
     }
-    let t = table::enter(read.table, s, lane, number);
-    table::put_text(t, text);
+    table::put_text(table::enter(t, s, lane, number), text);
     0
 }
 
@@ -240,19 +228,11 @@ pub extern "C" fn sealed_enter_each(text: &mut [u8], s: &[u8], lane: u8, number:
     ensures answer { result ≡ each_number text.old }
     ensures buffer { text.new ≡ each_buffer text.old s.now lane number }
 {
-    let read = table::table_in(text);
-    if !read.legal {
+    let Some(mut t) = table::table_in(text) else {
         return 4;
-    }
-    let mut t = read.table;
-    let n = s.len() / transaction::MAX_TEXT;
-    let mut k: usize = 0;
-    while k < n {
-        let at = transaction::MAX_TEXT * k;
-        let e = at + transaction::MAX_TEXT;
-        let next = table::enter(t, &s[at..e], lane, number);
-        t = next;
-        k += 1;
+    };
+    for bytes in s.chunks_exact(MAX_TEXT) {
+        t = table::enter(t, bytes, lane, number);
     }
     table::put_text(t, text);
     0

@@ -1,2 +1,1 @@
--- TruncateLaws: what Truncate answers on each of its ways out.
-pub mod TruncateLaws
+-- The proofs are those of the functions.

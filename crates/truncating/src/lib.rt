@@ -3,24 +3,23 @@
 #![tactic(auto)]
 
 ghost use Rattle.std.specs.Prelude.{◌≡◌, []};
-ghost use Rattle.octets.specs.Lists.{at};
 ghost use Rattle.protocol.specs.Said.{shown_as};
-ghost use Rattle.protocol.specs.Steps.{put_r};
-ghost use Rattle.protocol.specs.Truncate.{after_truncate_r, truncate_delete, truncate};
-ghost use Rattle.truncating.specs.Turn.{lane_due, deletes};
+ghost use Rattle.protocol.specs.Truncate.{after_truncate_r, truncate_lane, truncate_delete, truncate_due, truncate};
 
-use protocol::{Answer, Due, Point, Refusal, State, Step, Store, TruncateStep, Vault};
+use journal::points;
+use protocol::{Answer, Due, Outcome, Point, Refusal, State, Store, Taken, TruncateStep};
+use steps::LaneCounter;
 use table::LANES;
 
 // The store that is due behind R of a lane: R of the next lane, or the deletion.
+#[tactic(auto, unfolding(protocol::specs::Truncate::after_truncate_r))]
 fn after_r(lane: u8, position: u64) -> Due
     ensures { result ≡ after_truncate_r lane position }
 {
     if lane < LANES - 1 {
-        let next = lane + 1;
         return Due::Truncate {
             position,
-            step: TruncateStep::R { lane: next },
+            step: TruncateStep::R { lane: lane + 1 },
         };
     }
     Due::Truncate {
@@ -29,113 +28,74 @@ fn after_r(lane: u8, position: u64) -> Due
     }
 }
 
-// R of a lane is set to the point's count of it.
-fn lane_step(x: Vault, position: u64, lane: u8, q: Point) -> Step
-    ensures { result ≡ put_r x lane (at q.counts lane) (after_truncate_r lane position) }
+// R of a lane is set to the point's count of it. It refuses a lane that there is not (1).
+#[tactic(auto, unfolding(protocol::specs::Truncate::truncate_lane))]
+fn lane_step(c: &mut State, position: u64, lane: u8, q: Point) -> Outcome
+    ensures { shown_as (record { state = c.new; outcome = result }) [] ≡ truncate_lane c.old position lane q }
 {
-    let counts = q.counts;
-    let value = vault::lane_at(counts, lane);
+    let count = vault::lane_at(q.counts, lane);
     let next = after_r(lane, position);
-    steps::put_r(x, lane, value, next)
+    let step = steps::put(c.vault, LaneCounter::R, lane, count, next);
+    steps::stepped(c, step)
 }
 
 // The point at a position and the older ones are dropped, and the deletion of the records below it is named.
-fn deleted(c: State, position: u64) -> Answer
-    ensures { shown_as result [] ≡ truncate_delete c position }
+#[tactic(auto, unfolding(protocol::specs::Truncate::truncate_delete, protocol::specs::Said::refuse, protocol::specs::Said::shown_as, protocol::specs::Said::shown, protocol::specs::Said::number_of, protocol::specs::Said::values_of))]
+fn deleted(c: &mut State, position: u64) -> Outcome
+    ensures { shown_as (record { state = c.new; outcome = result }) [] ≡ truncate_delete c.old position }
 {
-    let old = c.points;
-    let points = journal::points::dropped_to(old, position);
-    let vault = c.vault;
-    let phase = c.phase;
-    let table = c.table;
-    let journal = c.journal;
-    let held = c.held;
-    let key = c.key;
-    let state = State {
-        vault,
-        phase,
-        due: Due::Nothing,
-        table,
-        journal,
-        points,
-        held,
-        key,
-    };
-    state::taken(state, Store::Delete { position }, 0)
+    c.points = points::dropped_to(c.points, position);
+    c.due = Due::Nothing;
+    Ok(Taken {
+        store: Store::Delete { position },
+        len: 0,
+    })
 }
 
-// The lane whose R a call at a position stores, and a lane that there is not where it stores none.
-fn lane_due(due: Due, position: u64) -> u8
-    ensures { result ≡ lane_due due position }
+// A call at a position, by the store that is due: the first R where none is. It refuses another operation's store, and
+// another position or a point that is gone while it is truncating (1), and a position where no covered point stands (14).
+#[tactic(auto, unfolding(protocol::specs::Truncate::truncate_due, protocol::specs::Truncate::truncate_first, protocol::specs::Truncate::truncate_next, protocol::specs::Truncate::truncate_step, protocol::specs::Truncate::uncovered, protocol::specs::Said::refuse, protocol::specs::Said::shown_as, protocol::specs::Said::shown, protocol::specs::Said::number_of, protocol::specs::Said::values_of))]
+fn step(c: &mut State, position: u64) -> Outcome
+    ensures { shown_as (record { state = c.new; outcome = result }) [] ≡ truncate_due c.old position c.old.due }
 {
+    let due = c.due;
     match due {
-        Due::Nothing => 0,
-        Due::Truncate { position: at, step } => match step {
-            TruncateStep::R { lane } => {
-                if at == position {
-                    return lane;
-                }
-                LANES
+        Due::Nothing => {
+            let Some(q) = points::find_point(c.points, position) else {
+                return Err(Refusal::Point);
+            };
+            if !q.covered {
+                return Err(Refusal::Point);
             }
-            TruncateStep::Delete => LANES,
-        },
-        Due::Record => LANES,
-        Due::Checkpoint { step } => LANES,
-        Due::Recover { step } => LANES,
-    }
-}
-
-// Whether a call at a position names the deletion.
-fn deletes(due: Due, position: u64) -> bool
-    ensures { result ≡ deletes due position }
-{
-    match due {
-        Due::Nothing => false,
-        Due::Truncate { position: at, step } => match step {
-            TruncateStep::R { lane } => false,
-            TruncateStep::Delete => at == position,
-        },
-        Due::Record => false,
-        Due::Checkpoint { step } => false,
-        Due::Recover { step } => false,
+            lane_step(c, position, 0, q)
+        }
+        Due::Truncate { position: at, step } => {
+            if at != position {
+                return Err(Refusal::Condition);
+            }
+            let TruncateStep::R { lane } = step else {
+                return deleted(c, position);
+            };
+            let Some(q) = points::find_point(c.points, position) else {
+                return Err(Refusal::Condition);
+            };
+            lane_step(c, position, lane, q)
+        }
+        _ => Err(Refusal::Condition),
     }
 }
 
 // Truncate: a position. It refuses a collector that is not in service, that has another store due, or that is
-// truncating at another position (1), and a position where no covered point stands (14). Each answer is built in one place,
-// for a state that is passed is copied.
-pub fn truncate(c: State, position: u64) -> Answer
+// truncating at another position (1), and a position where no covered point stands (14).
+#[tactic(auto, unfolding(protocol::specs::Truncate::truncate, protocol::specs::Said::refuse, protocol::specs::Said::shown_as, protocol::specs::Said::shown, protocol::specs::Said::number_of, protocol::specs::Said::values_of))]
+pub fn truncate(mut c: State, position: u64) -> Answer
     ensures { shown_as result [] ≡ truncate c position }
 {
-    let x = c.vault;
-    let phase = c.phase;
-    let due = c.due;
-    let p = c.points;
-    let fine = state::valid(x, c.journal.count, p.count);
-    let on = state::serving(phase);
-    let good = fine & on;
-    if !good {
+    let fine = state::valid(&c);
+    let on = state::serving(c.phase);
+    if !(fine & on) {
         return state::refused(c, Refusal::Condition);
     }
-    let read = journal::points::find_point(p, position);
-    let q = read.point;
-    let found = read.found;
-    let first = state::is_nothing(due);
-    let bare = first & (!found | !q.covered);
-    if bare {
-        return state::refused(c, Refusal::Point);
-    }
-    if deletes(due, position) {
-        return deleted(c, position);
-    }
-    let lane = lane_due(due, position);
-    let off = !found | (LANES <= lane);
-    if off {
-        return state::refused(c, Refusal::Condition);
-    }
-    let set = lane_step(x, position, lane, q);
-    let raised = set.vault;
-    let next = set.due;
-    let store = set.store;
-    state::stored(c, raised, next, store, 0)
+    let outcome = step(&mut c, position);
+    Answer { state: c, outcome }
 }

@@ -8,268 +8,177 @@
 
 mod text;
 
-ghost use Rattle.std.specs.Prelude.{◌≤◌, IfOk, length};
+ghost use Rattle.std.specs.Prelude.{◌≤◌};
 ghost use Rattle.vectors.specs.Tally.{Single};
 
-use gcm::{Opening, Sealing};
+use gcm::OpenError;
+use std::alloc::{AllocError, Global};
 use std::fs::File;
-use std::io;
 use std::io::Read;
 use std::rt::Files;
+use std::{fmt, io};
+use text::{Flaw, array, bytes, field};
 
-// The three sets of vectors.
-#[derive(Clone, Copy)]
-enum Set {
-    Aes,
-    Encrypt,
-    Decrypt,
+// How a vector does: it agrees, it agrees where NIST has the decryption fail, or it does not agree.
+#[derive(Clone, Copy, PartialEq, Eq)]
+enum Verdict {
+    Agrees,
+    Refused,
+    Differs,
+}
+
+impl From<bool> for Verdict {
+    fn from(agrees: bool) -> Verdict {
+        if agrees {
+            Verdict::Agrees
+        } else {
+            Verdict::Differs
+        }
+    }
 }
 
 // How many vectors there are, how many agree, and how many of those are refused.
-#[derive(Clone, Copy)]
+#[derive(Clone, Copy, Default)]
 struct Tally {
     lines: u64,
     agreed: u64,
     refused: u64,
 }
 
-// Whether two blocks are equal.
-fn same_block(a: [u8; 16], b: [u8; 16]) -> bool {
-    octets::same(&a, &b)
+impl Tally {
+    // One vector more.
+    fn add(&mut self, verdict: Verdict)
+        ensures { Single self.old self.new }
+    {
+        self.lines = self.lines.saturating_add(1);
+        if verdict != Verdict::Differs {
+            self.agreed = self.agreed.saturating_add(1);
+        }
+        if verdict == Verdict::Refused {
+            self.refused = self.refused.saturating_add(1);
+        }
+    }
 }
+
+impl fmt::Display for Tally {
+    fn fmt<W: fmt::Write>(&self, f: &mut fmt::Formatter<W>) -> fmt::Result {
+        write!(f, "{} of {}", self.agreed, self.lines)
+    }
+}
+
+// What stands in a lent buffer that a decryption is to leave as it was, but for the text.
+const BEFORE: u8 = 0xa5;
+
+// What is lent behind the bytes that a call writes, and is to stay.
+const BEHIND: [u8; 16] = [0u8; 16];
 
 // A line of the AES set: set key plaintext ciphertext.
-fn enciphers(line: &[u8]) -> bool {
-    let k = text::decode16(text::field(line, 1));
-    let p = text::decode16(text::field(line, 2));
-    let c = text::decode16(text::field(line, 3));
-    let key = k.bytes;
-    let plain = p.bytes;
-    let want = c.bytes;
+fn enciphers(alloc: Global, line: &[u8]) -> Result<Verdict, Flaw> {
+    let key: [u8; 16] = array(alloc, field(line, 1))?;
+    let plain: [u8; 16] = array(alloc, field(line, 2))?;
+    let want: [u8; 16] = array(alloc, field(line, 3))?;
     let w = aes_key::key_expansion(key);
     let got = octets::block_bytes(aes::encrypt(&w, octets::first_block(&plain)));
-    k.good & p.good & c.good & same_block(got, want)
+    Ok(Verdict::from(got == want))
 }
 
-// a, with b behind it, at the start of as many zeros as hold a field and a tag.
-fn joined(a: &[u8], b: &[u8]) -> [u8; 144] {
-    let mut r = [0u8; 144];
-    octets::copy(a, &mut r);
-    let n = a.len();
-    if n <= 144 {
-        octets::copy(b, &mut r[n..]);
-    }
-    r
+// A line of the encryptions: key iv plaintext aad ciphertext tag. The text is encrypted in place, and the tag put behind it.
+fn seals(alloc: Global, line: &[u8]) -> Result<Verdict, Flaw> {
+    let key: [u8; 16] = array(alloc, field(line, 0))?;
+    let iv: [u8; 12] = array(alloc, field(line, 1))?;
+    let mut buf = bytes(alloc, field(line, 2))?;
+    let aad = bytes(alloc, field(line, 3))?;
+    let mut want = bytes(alloc, field(line, 4))?;
+    let tag: [u8; 16] = array(alloc, field(line, 5))?;
+    let n = buf.len();
+    buf.extend_from_slice(&[0u8; 16])?;
+    buf.extend_from_slice(&BEHIND)?;
+    want.extend_from_slice(&tag)?;
+    want.extend_from_slice(&BEHIND)?;
+    let done = gcm::prepare(key)
+        .seal(iv, aad.as_slice(), buf.as_mut_slice(), n)
+        .is_ok();
+    Ok(Verdict::from(done && buf == want))
 }
 
-// Whether the encryption of plain is want with the tag behind it.
-fn seals_to(
-    key: [u8; 16],
-    iv: [u8; 12],
-    aad: &[u8],
-    plain: &[u8],
-    want: &[u8],
-    tag: [u8; 16],
-) -> bool {
-    let all = joined(want, &tag);
-    let mut buf = joined(plain, b"");
-    let answer = gcm::prepare(key).seal(iv, aad, &mut buf, plain.len());
-    match answer {
-        Sealing::Done => (want.len() == plain.len()) & octets::same(&buf, &all),
-        Sealing::Short(_) => false,
-        Sealing::Long => false,
-    }
-}
-
-// A line of the encryptions: key iv plaintext aad ciphertext tag.
-fn seals(line: &[u8]) -> bool {
-    let k = text::decode16(text::field(line, 0));
-    let v = text::decode12(text::field(line, 1));
-    let t = text::decode16(text::field(line, 5));
-    let key = k.bytes;
-    let iv = v.bytes;
-    let tag = t.bytes;
-    let mut plain = [0u8; 128];
-    let mut aad = [0u8; 128];
-    let mut want = [0u8; 128];
-    let p = text::decode(text::field(line, 2), &mut plain);
-    let a = text::decode(text::field(line, 3), &mut aad);
-    let c = text::decode(text::field(line, 4), &mut want);
-    let n = p.len;
-    let d = a.len;
-    let m = c.len;
-    let right = seals_to(key, iv, &aad[..d], &plain[..n], &want[..m], tag);
-    right & k.good & v.good & p.good & a.good & c.good & t.good
-}
-
-// Whether the decryption of text and tag is want, or fails where it is to fail. Of the lent buffer only what want covers
-// is written.
-fn opens_to(
-    key: [u8; 16],
-    iv: [u8; 12],
-    aad: &[u8],
-    cipher: &[u8],
-    tag: [u8; 16],
-    want: &[u8],
-    fails: bool,
-) -> bool {
-    let n = cipher.len();
-    if 128 < n {
-        return false;
-    }
-    let e = n + 16;
-    let sealed = joined(cipher, &tag);
-    let mut out = [0xa5u8; 128];
-    let mut all = out;
-    octets::copy(want, &mut all);
-    let answer = gcm::prepare(key).open(iv, aad, &sealed[..e], &mut out);
-    let same = octets::same(&out, &all);
-    match answer {
-        Opening::Text(r) => !fails & (r == want.len()) & same,
-        Opening::Fail => fails & same,
-        Opening::Short(_) => false,
-        Opening::Long => false,
+// Whether what was lent starts with these bytes, and what stands behind them is as it was.
+fn holds(lent: &[u8], text: &[u8]) -> bool {
+    match lent.strip_prefix(text) {
+        Some(rest) => rest.iter().all(|b| *b == BEFORE),
+        None => false,
     }
 }
 
 // A line of the decryptions: key iv ciphertext aad tag plaintext, or FAIL for the plaintext.
-fn opens(line: &[u8]) -> bool {
-    let k = text::decode16(text::field(line, 0));
-    let v = text::decode12(text::field(line, 1));
-    let t = text::decode16(text::field(line, 4));
-    let key = k.bytes;
-    let iv = v.bytes;
-    let tag = t.bytes;
-    let mut cipher = [0u8; 128];
-    let mut aad = [0u8; 128];
-    let mut want = [0u8; 128];
-    let c = text::decode(text::field(line, 2), &mut cipher);
-    let a = text::decode(text::field(line, 3), &mut aad);
-    let p = text::decode(text::field(line, 5), &mut want);
-    let n = c.len;
-    let d = a.len;
-    let m = p.len;
-    let fails = refused(line);
-    let right = opens_to(key, iv, &aad[..d], &cipher[..n], tag, &want[..m], fails);
-    right & k.good & v.good & c.good & a.good & t.good & (p.good | fails)
-}
-
-// Whether NIST has the decryption fail.
-fn refused(line: &[u8]) -> bool {
-    octets::same(text::field(line, 5), b"FAIL")
-}
-
-// 1 for true.
-fn bit(b: bool) -> u64
-    ensures { result ≤ 1 }
-{
-    if b { 1 } else { 0 }
-}
-
-// What a line adds to the tally of its set.
-fn judged(set: Set, line: &[u8]) -> Tally
-    ensures { Single result }
-{
-    if octets::byte_at(line, 0) == b'#' {
-        return Tally {
-            lines: 0,
-            agreed: 0,
-            refused: 0,
-        };
+fn opens(alloc: Global, line: &[u8]) -> Result<Verdict, Flaw> {
+    let key: [u8; 16] = array(alloc, field(line, 0))?;
+    let iv: [u8; 12] = array(alloc, field(line, 1))?;
+    let mut sealed = bytes(alloc, field(line, 2))?;
+    let aad = bytes(alloc, field(line, 3))?;
+    let tag: [u8; 16] = array(alloc, field(line, 4))?;
+    sealed.extend_from_slice(&tag)?;
+    let mut out = vec![in alloc; BEFORE; sealed.len()]?;
+    let answer = gcm::prepare(key).open(iv, aad.as_slice(), sealed.as_slice(), out.as_mut_slice());
+    let wanted = field(line, 5);
+    if matches!(wanted, b"FAIL") {
+        let fails = answer == Err(OpenError::Fail) && holds(out.as_slice(), b"");
+        return Ok(if fails {
+            Verdict::Refused
+        } else {
+            Verdict::Differs
+        });
     }
-    match set {
-        Set::Aes => Tally {
-            lines: 1,
-            agreed: bit(enciphers(line)),
-            refused: 0,
-        },
-        Set::Encrypt => Tally {
-            lines: 1,
-            agreed: bit(seals(line)),
-            refused: 0,
-        },
-        Set::Decrypt => {
-            let right = opens(line);
-            Tally {
-                lines: 1,
-                agreed: bit(right),
-                refused: bit(right & refused(line)),
-            }
+    let want = bytes(alloc, wanted)?;
+    let opened = answer == Ok(want.len());
+    Ok(Verdict::from(opened && holds(out.as_slice(), want.as_slice())))
+}
+
+// The tally of a file's text, line by line, each by the test of its set.
+fn counted<F: Fn(Global, &[u8]) -> Result<Verdict, Flaw>>(
+    alloc: Global,
+    s: &[u8],
+    test: F,
+) -> Result<Tally, AllocError>
+    requires { F.IsAlwaysCallable test }
+{
+    let mut tally = Tally::default();
+    for line in s.split_inclusive(|b| *b == b'\n') {
+        let line = line.strip_suffix(b"\n").unwrap_or(line);
+        if line.starts_with(b"#") {
+            continue;
+        }
+        match test(alloc, line) {
+            Ok(verdict) => tally.add(verdict),
+            Err(Flaw::Malformed) => tally.add(Verdict::Differs),
+            Err(Flaw::Memory(e)) => return Err(e),
         }
     }
-}
-
-// The tally of a file's text, line by line.
-fn counted(set: Set, s: &[u8]) -> Tally {
-    let mut lines: u64 = 0;
-    let mut agreed: u64 = 0;
-    let mut refused: u64 = 0;
-    let mut at = 0;
-    while at < s.len() {
-        let e = text::end(s, b'\n', at);
-        let one = judged(set, &s[at..e]);
-        lines += one.lines;
-        agreed += one.agreed;
-        refused += one.refused;
-        at = text::next(s, b'\n', at);
-    }
-    Tally {
-        lines,
-        agreed,
-        refused,
-    }
-}
-
-// Reads until buf is full or the input ends, and answers how many bytes it put at the start of buf.
-fn fill(from: &mut impl Read, buf: &mut [u8]) -> io::Result<usize>
-    ensures { IfOk result (λ n. n ≤ length buf.new) }
-{
-    let mut done = 0;
-    while done < buf.len() {
-        let n = from.read(&mut buf[done..])?;
-        if n == 0 {
-            break;
-        }
-        done += n;
-    }
-    Ok(done)
+    Ok(tally)
 }
 
 // The tally of a file, of its first 65536 bytes. Where it cannot be opened, standard error says why, and it has no lines.
-fn run<R: Files + Eprint>(rt: &R, set: Set, path: &str) -> io::Result<Tally> {
-    let mut file = match File::open(rt, path) {
-        Ok(file) => file,
-        Err(e) => {
-            eprintln!(rt; "{path}: {e}")?;
-            return Ok(Tally {
-                lines: 0,
-                agreed: 0,
-                refused: 0,
-            });
+fn run<R: Files + Eprint + AllocGlobal, F: Fn(Global, &[u8]) -> Result<Verdict, Flaw>>(
+    rt: &R,
+    path: &str,
+    test: F,
+) -> io::Result<Tally>
+    requires { F.IsAlwaysCallable test }
+{
+    let mut text = Vec::new(rt.alloc());
+    match File::open(rt, path) {
+        Ok(file) => {
+            file.take(65536).read_to_end(&mut text)?;
         }
-    };
-    let mut text = [0u8; 65536];
-    let n = fill(&mut file, &mut text)?;
-    Ok(counted(set, &text[..n]))
-}
-
-// Writes what a set is called, and how many of its vectors agree.
-fn report(rt: &impl Print, name: &str, t: Tally) -> io::Result<()> {
-    print!(rt; "{name}: {} of {}", t.agreed, t.lines)
+        Err(e) => eprintln!(rt; "{path}: {e}")?,
+    }
+    Ok(counted(rt.alloc(), text.as_slice(), test)?)
 }
 
 fn main(rt: HostRuntime) -> io::Result<()> {
-    report(
-        &rt,
-        "AES known answers",
-        run(&rt, Set::Aes, "aes-128-ecb.txt")?,
-    )?;
-    report(
-        &rt,
-        "\nGCM encryptions",
-        run(&rt, Set::Encrypt, "gcm-encrypt-128.txt")?,
-    )?;
-    let d = run(&rt, Set::Decrypt, "gcm-decrypt-128.txt")?;
-    report(&rt, "\nGCM decryptions", d)?;
-    println!(rt; ", {} refused", d.refused)
+    let aes = run(&rt, "aes-128-ecb.txt", enciphers)?;
+    print!(rt; "AES known answers: {aes}")?;
+    let encrypt = run(&rt, "gcm-encrypt-128.txt", seals)?;
+    print!(rt; "\nGCM encryptions: {encrypt}")?;
+    let decrypt = run(&rt, "gcm-decrypt-128.txt", opens)?;
+    println!(rt; "\nGCM decryptions: {decrypt}, {} refused", decrypt.refused)
 }

@@ -1,141 +1,86 @@
-// The text of a file of test vectors: lines, fields with a space between them, bytes in hexadecimal.
+// The text of a file of test vectors: fields with a space between them, bytes in hexadecimal.
 //
-// Nothing here has a `requires`: past the end of a text there is an empty field.
-ghost use Rattle.std.specs.Prelude.{◌≡◌, ◌≤◌, ◌<◌, length, take};
-ghost use Rattle.vectors.specs.Hex.{digit_value, bytes_to};
+// Nothing here has a `requires`: past the end of a line there is an empty field.
+ghost use Rattle.std.specs.Prelude.{◌≡◌, ◌+◌, ◌*◌, ◌<◌, IfOk, IfSome, vec_len};
+ghost use Rattle.vectors.specs.Hex.{digit_value, value_or_zero, bytes_to};
 
-// The bytes that a field writes: how many there are, and whether the field is well formed.
-#[derive(Clone, Copy)]
-pub struct Bytes {
-    pub len: usize,
-    pub good: bool,
+use std::alloc::{AllocError, AllocFailed, Global};
+
+// The most bytes of a field.
+const MOST: usize = 128;
+
+// Why a field gives no bytes: it is not well formed, or there is no memory for them.
+#[derive(Drop)]
+pub enum Flaw {
+    Malformed,
+    Memory(AllocError),
 }
 
-// A field of 16 bytes, as a key, a block or a tag, and of 12, as an IV.
-#[derive(Clone, Copy)]
-pub struct Sixteen {
-    pub bytes: [u8; 16],
-    pub good: bool,
+impl From<AllocError> for Flaw {
+    fn from(e: AllocError) -> Flaw {
+        Flaw::Memory(e)
+    }
 }
 
-#[derive(Clone, Copy)]
-pub struct Twelve {
-    pub bytes: [u8; 12],
-    pub good: bool,
+impl<T: Drop> From<AllocFailed<T>> for Flaw {
+    fn from(e: AllocFailed<T>) -> Flaw {
+        Flaw::Memory(AllocError::from(e))
+    }
 }
 
-// The value of a hexadecimal digit, and 16 for any other byte.
-fn digit(c: u8) -> u8
-    ensures { result ≡ digit_value c }
+// The value of a hexadecimal digit.
+#[tactic(auto, using(std::proofs::lemmas::Bool::Decides::nat_tests))]
+fn digit(c: u8) -> Option<u8>
+    ensures value { result ≡ digit_value c }
+    ensures below { IfSome result (λ d. d < 16) }
 {
-    if c < b'0' {
-        return 16;
+    match c {
+        b'0'..=b'9' => Some(c - b'0'),
+        b'a'..=b'f' => Some(c - b'a' + 10),
+        _ => None,
     }
-    if c <= b'9' {
-        return c - b'0';
-    }
-    if c < b'a' {
-        return 16;
-    }
-    if c <= b'f' {
-        return c - b'a' + 10;
-    }
-    16
 }
 
-// Where the first byte b from `from` on stands, or the end of s.
-pub fn end(s: &[u8], b: u8, from: usize) -> usize
-    ensures { (result ≤ length s.now) × (from ≤ length s.now → from ≤ result) }
+// The byte that two digits write.
+fn byte(high: u8, low: u8) -> Option<u8>
+    ensures { IfSome result (λ b. b ≡ value_or_zero high * 16 + value_or_zero low) }
 {
-    let mut i = from;
-    while i < s.len() {
-        if s[i] == b {
-            return i;
-        }
-        i += 1;
-    }
-    s.len()
-}
-
-// Where the text behind the first byte b from `from` on starts, or the end of s.
-pub fn next(s: &[u8], b: u8, from: usize) -> usize
-    ensures { (result ≤ length s.now) × (from < length s.now → from < result) }
-{
-    let e = end(s, b, from);
-    if e < s.len() {
-        return e + 1;
-    }
-    e
+    Some(digit(high)? * 16 + digit(low)?)
 }
 
 // Field k of a line, counted from 0.
 pub fn field(line: &[u8], k: usize) -> &[u8] {
-    let mut from = 0;
-    let mut i = 0;
-    while i < k {
-        from = next(line, b' ', from);
-        i += 1;
-    }
-    let to = end(line, b' ', from);
-    &line[from..to]
+    line.split(|b| *b == b' ').nth(k).unwrap_or(b"")
 }
 
-// Puts the bytes that a field writes at the start of out: two digits a byte, or "-" for none. A field is not well formed
-// where it has another byte or half a byte, is empty, or does not fit: it then writes none.
-pub fn decode(s: &[u8], out: &mut [u8]) -> Bytes
-    ensures counts { (result.len ≤ length out.new) × (result.len ≡ length (take result.len out.new)) }
-    ensures bytes { take result.len out.new ≡ bytes_to s.now result.len }
+// The bytes that a field writes: two digits a byte, or "-" for none. A field is not well formed where it has another byte or
+// half a byte, is empty, or writes more than 128 bytes.
+#[tactic(auto, unfolding(crate::specs::Hex::bytes_to))]
+pub fn bytes(alloc: Global, field: &[u8]) -> Result<Vec<u8>, Flaw>
+    ensures { IfOk result (λ v. v.items ≡ bytes_to field.now (vec_len v)) }
 {
-    if (s.len() == 1) & (octets::byte_at(s, 0) == b'-') {
-        return Bytes { len: 0, good: true };
+    let mut bytes = Vec::new(alloc);
+    if matches!(field, b"-") {
+        return Ok(bytes);
     }
-    let n = s.len() / 2;
-    if (n == 0) | (s.len() % 2 == 1) {
-        return Bytes {
-            len: 0,
-            good: false,
+    if field.is_empty() || field.len() % 2 == 1 || 2 * MOST < field.len() {
+        return Err(Flaw::Malformed);
+    }
+    for pair in field.chunks_exact(2) {
+        let Some(b) = byte(pair[0], pair[1]) else {
+            return Err(Flaw::Malformed);
         };
+        bytes.push(b)?;
     }
-    if out.len() < n {
-        return Bytes {
-            len: 0,
-            good: false,
-        };
-    }
-    let mut good = true;
-    let mut i = 0;
-    while i < n {
-        let h = digit(s[2 * i]);
-        let l = digit(s[2 * i + 1]);
-        good = good & (h < 16) & (l < 16);
-        out[i] = h % 16 * 16 + l % 16;
-        i += 1;
-    }
-    if good {
-        return Bytes { len: n, good: true };
-    }
-    Bytes {
-        len: 0,
-        good: false,
-    }
+    Ok(bytes)
 }
 
-// A field that is to write 16 bytes.
-pub fn decode16(s: &[u8]) -> Sixteen {
-    let mut bytes = [0u8; 16];
-    let b = decode(s, &mut bytes);
-    Sixteen {
-        bytes,
-        good: b.good & (b.len == 16),
-    }
-}
-
-// A field that is to write 12 bytes.
-pub fn decode12(s: &[u8]) -> Twelve {
-    let mut bytes = [0u8; 12];
-    let b = decode(s, &mut bytes);
-    Twelve {
-        bytes,
-        good: b.good & (b.len == 12),
+// The bytes of a field that is to write N, as a key, a block, a tag or an IV.
+pub fn array<const N: usize>(alloc: Global, field: &[u8]) -> Result<[u8; N], Flaw>
+    ensures { IfOk result (λ a. a ≡ bytes_to field.now N) }
+{
+    match <[u8; N]>::try_from(bytes(alloc, field)?.as_slice()) {
+        Ok(a) => Ok(a),
+        Err(_) => Err(Flaw::Malformed),
     }
 }

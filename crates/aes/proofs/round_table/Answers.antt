@@ -1,5 +1,5 @@
 -- `aes::round_table` meets its contract: the table passes the test of its rule. Assumes nothing.
-use Rattle.aes.proofs.RoundTable.{passes}
+use Rattle.aes.proofs.TableLaws.{passes}
 use Rattle.aes.specs.Rounds.{spread}
 use Rattle.aes_key.specs.Sbox.{sbox, affine, affine_bits, affine_bit, bit}
 use Rattle.aes_key.specs.Gf.{◌•◌, times_bits, x_times, squares, inverse}

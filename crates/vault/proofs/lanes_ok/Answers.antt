@@ -1,16 +1,18 @@
-use Rattle.octets.proofs.EveryLaws.{all_none, all_more}
-use native.Mathlib.Omega.{arith}
-use mathlib.Core.Path.{◌≡◌, sym}
-use Rattle.vault.proofs.lanes_ok.Invariants.{keeps}
+-- `vault::lanes_ok` meets its contract: the chain tests each lane below 8. Assumes nothing.
+use Rattle.std.specs.Prelude.{ℕ, Bool, refl}
+use Rattle.std.proofs.Common.{◌∙◌}
+use Rattle.std.proofs.lemmas.Iterator.{YieldsList-from_range}
+use Rattle.std.proofs.lemmas.Iterator.Search.{all_from_yields_List}
+use borrow.Author.Rules.{rules}
+use borrow.Author.Tests.{tests}
+use Rattle.octets.specs.Lists.{at}
+use Rattle.table.specs.Table.{lanes}
+use Rattle.protocol.specs.Vaults.{lane_ok}
+use Rattle.vault.proofs.BelowLaws.{all_in_range}
 use Rattle.vault.proofs.lanes_ok.Goals as goal
 
-pub loop-lane-init : goal.loop-lane-init
-loop-lane-init c = (omega arith, sym (all_none _))
-
-pub loop-lane-preserved : goal.loop-lane-preserved
-loop-lane-preserved c =
-    let step = all_more (keeps c.args.x) c.loop-lane.lane in
-    (omega arith, rw (c.lane_ok-fine.ensures, c.r_at-r.ensures, c.v_at-v.ensures, c.w_at-w.ensures, c.loop-lane.invariant.1) step)
-
 pub returns : goal.returns
-returns c = let h : c.loop-lane.lane ≡ 8 = omega arith in cc
+returns c =
+    let x = c.args.x in
+    let test : ℕ → Bool = λ i. lane_ok (at x.w i) (at x.v i) (at x.r i) in
+    all_from_yields_List test _ _ _ c.all.ensures.ran (YieldsList-from_range 0 lanes lanes refl refl) (λ i b q k. search (rules, tests)) ∙ all_in_range test lanes

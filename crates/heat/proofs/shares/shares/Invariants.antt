@@ -1,17 +1,14 @@
--- `heat::shares::shares` meets its contract. The invariant: the shares so far, by the remainders and the missing units, which are the definition's.
--- The measure is the meters left. Assumes nothing.
+-- `heat::shares::shares` meets its contract. The invariant: the shares so far. Assumes nothing.
+use Rattle.heat.specs.Uses.{listed_in, gains_in}
 use Rattle.heat.specs.Shares.{share}
-use Rattle.octets.specs.Lists.{at, tab}
+use Rattle.octets.specs.Lists.{at}
 use Rattle.transaction.specs.Transaction.{meters}
-use lib.Dec.{eqb}
-use lib.ListN.{length, take}
-use mathlib.Core.Bool.{cond}
-use mathlib.Core.Path.{◌≡◌}
-use Prim.Native.Nat.{◌-◌, ◌≤◌}
+use Rattle.std.specs.Prelude.{cond}
+use Rattle.std.proofs.Common.{ℕ, ◌≡◌, ◌<◌, length}
 use Rattle.heat.proofs.shares.shares.Given as goal
 
 abbrev pub invariant-loop-m : goal.invariant-loop-m
-invariant-loop-m l = (l.m ≤ meters) × (length l.shares ≡ meters) × (take l.m l.shares ≡ tab l.m (λ k. cond (eqb (at l.listed k) 1) (share (λ i. eqb (at l.listed i) 1) (at l.gains) k) 0))
-
-abbrev pub decreases-loop-m : goal.decreases-loop-m
-decreases-loop-m l = meters - l.m
+invariant-loop-m l = record {
+  shares : (k : ℕ) → k < l.m → at l.shares k ≡ cond (listed_in l.uses.each k) (share (listed_in l.uses.each) (gains_in l.uses.each) k) 0;
+  long : length l.shares ≡ meters;
+}

@@ -1,29 +1,82 @@
+use Rattle.std.proofs.lemmas.Slice.Zip.{zip_turn, zip_end}
+use Rattle.std.proofs.lemmas.List.{length-take}
+use Rattle.std.specs.Slice.Iter.{iter_rest}
+use Rattle.std.specs.Iterator.Adapters.{zip_first, zip_second}
 use Rattle.journal.proofs.LaidLaws.{laid_none, laid_in, laid_out_law, laid_all}
+use Rattle.octets.specs.Lists.{at}
 use Rattle.protocol.specs.Point.{marks_of}
-use lib.ListN.{length, length-set}
+use Rattle.protocol.specs.States.{listed}
+use lib.ListN.{length, length-set, length-append, take}
+use lib.Seq.{get_or-take}
+use borrow.Author.Rules.{rules}
 use native.Mathlib.Omega.{arith}
-use mathlib.Core.Path.{refl, ap, ◌∙◌}
-use Prim.Native.Nat.{◌-◌, ◌<◌}
+use mathlib.Core.List.{[], ◌∷◌, ◌++◌}
+use mathlib.Core.Path.{◌≡◌, refl, ◌∙◌}
+use Prim.Native.Nat.{◌+◌, ◌<◌}
 use Rattle.journal.proofs.marks.journal_from.Goals as goal
-use Rattle.journal.proofs.marks.journal_from.Goals.{then-position-p, else-position-p}
 
-pub loop-i-init : goal.loop-i-init
-loop-i-init c = (omega arith, omega arith, refl, refl, laid_none c.args.position c.args.j)
+pub loop-p-init : goal.loop-p-init
+loop-p-init c = rw c.no_journal-kept.ensures (record { few = omega arith; long = refl; wide = refl; laid = laid_none c.args.position c.args.j })
 
-pub loop-i-preserved : goal.loop-i-preserved
-loop-i-preserved c =
-    let a = c.args in
-    let n = c.listed_in-n.ensures in
-    let l = c.loop-i in
-    let h : l.i < length (marks_of a.j) = omega arith in
-    elim c.if-position-p.branch [
-      | then-position-p w ↦ (omega arith, omega arith, ap length w.positions-is ∙ simp length-set l.invariant.2, ap length w.lanes-is ∙ simp length-set l.invariant.3, rw (w.positions-is, w.lanes-is, w.count-is) (laid_in a.position a.j h l.invariant.4 (omega arith) w.if-position-p.true))
-      | else-position-p w ↦ (omega arith, omega arith, ap length w.positions-is ∙ l.invariant.2, ap length w.lanes-is ∙ l.invariant.3, rw (w.positions-is, w.lanes-is, w.count-is) (laid_out_law a.position a.j h l.invariant.4 w.if-position-p.false))
-    ]
+pub loop-p-preserved-then-position-p : goal.loop-p-preserved-then-position-p
+loop-p-preserved-then-position-p c =
+    let l = c.loop-p in
+    let j = c.args.j in
+    let n = c.listed_in-n.result in
+    let i = length l.yielded in
+    let ps = take n j.positions in
+    let ls = take n j.lanes in
+    let s = c.into_iter-p-iterator.result in
+    let first : iter_rest (zip_first s) ≡ ps = (cc) in
+    let second : iter_rest (zip_second s) ≡ ls = (cc) in
+    let turn = zip_turn ps ls l.yielded s l.p-iterator c.next.new.self c.next.result first second l.yielded_by (c.in-Some.p, c.in-Some.lane) c.in-Some.is c.next.ensures.steps in
+    let more : length (l.yielded ++ ((c.in-Some.p, c.in-Some.lane) ∷ [])) ≡ i + 1 = length-append l.yielded ((c.in-Some.p, c.in-Some.lane) ∷ []) in
+    let h : i < n = omega (arith, turn.0, length-take n j.positions) in
+    let m : i < length (marks_of j) = omega (arith, c.listed_in-n.ensures.count) in
+    let p_is : c.in-Some.p.now ≡ at j.positions i = turn.2 0 ∙ get_or-take n j.positions i 0 h in
+    let lane_is : c.in-Some.lane.now ≡ at j.lanes i = turn.3 0 ∙ get_or-take n j.lanes i 0 h in
+    rw more (record {
+      few = omega arith;
+      long = simp length-set l.invariant.long;
+      wide = simp length-set l.invariant.wide;
+      laid = rw (p_is, lane_is) (laid_in c.args.position j m l.invariant.laid (omega (arith, c.listed_in-n.ensures.room)) (omega (arith, p_is, c.if-position-p.true)));
+    })
+
+pub loop-p-preserved : goal.loop-p-preserved
+loop-p-preserved c =
+    let l = c.loop-p in
+    let j = c.args.j in
+    let n = c.listed_in-n.result in
+    let i = length l.yielded in
+    let ps = take n j.positions in
+    let ls = take n j.lanes in
+    let s = c.into_iter-p-iterator.result in
+    let first : iter_rest (zip_first s) ≡ ps = (cc) in
+    let second : iter_rest (zip_second s) ≡ ls = (cc) in
+    let turn = zip_turn ps ls l.yielded s l.p-iterator c.next.new.self c.next.result first second l.yielded_by (c.in-Some.p, c.in-Some.lane) c.in-Some.is c.next.ensures.steps in
+    let more : length (l.yielded ++ ((c.in-Some.p, c.in-Some.lane) ∷ [])) ≡ i + 1 = length-append l.yielded ((c.in-Some.p, c.in-Some.lane) ∷ []) in
+    let h : i < n = omega (arith, turn.0, length-take n j.positions) in
+    let m : i < length (marks_of j) = omega (arith, c.listed_in-n.ensures.count) in
+    let p_is : c.in-Some.p.now ≡ at j.positions i = turn.2 0 ∙ get_or-take n j.positions i 0 h in
+    rw more (record {
+      few = omega arith;
+      long = l.invariant.long;
+      wide = l.invariant.wide;
+      laid = laid_out_law c.args.position j m l.invariant.laid (omega (arith, p_is, c.if-position-p.false));
+    })
 
 pub returns : goal.returns
 returns c =
-    let a = c.args in
-    let n = c.listed_in-n.ensures in
-    let l = c.loop-i in
-    laid_all a.position a.j {i = l.i} (omega arith) l.invariant.4
+    let l = c.loop-p in
+    let j = c.args.j in
+    let n = c.listed_in-n.result in
+    let i = length l.yielded in
+    let ps = take n j.positions in
+    let ls = take n j.lanes in
+    let s = c.into_iter-p-iterator.result in
+    let first : iter_rest (zip_first s) ≡ ps = (cc) in
+    let second : iter_rest (zip_second s) ≡ ls = (cc) in
+    let end = zip_end ps ls l.yielded s l.p-iterator c.next.new.self c.next.result first second l.yielded_by c.in-None.is c.next.ensures.steps in
+    let a : length j.positions ≡ listed = search rules in
+    let b : length j.lanes ≡ listed = search rules in
+    laid_all c.args.position j {i = i} (omega (arith, end, length-take n j.positions, length-take n j.lanes, c.listed_in-n.ensures.count, c.listed_in-n.ensures.room)) l.invariant.laid

@@ -1,31 +1,30 @@
-use Rattle.table.specs.Table.{lanes}
-use Rattle.journal.proofs.WalkLaws.{unseen_start, unseen_step}
-use Rattle.protocol.specs.Point.{marks_of, unseen_below}
-use lib.ListN.{length, drop}
-use borrow.Author.Rules.{rules}
-use native.Mathlib.Omega.{arith}
-use mathlib.Core.Path.{◌≡◌, ap, ◌∙◌}
+-- `journal::marks::unseen_below` meets its contract: the chain goes from the last record to the first. Assumes nothing.
+use mathlib.Core.Path.{◌≡◌, sym, ap, ◌∙◌}
+use mathlib.Core.List.{List}
+use mathlib.Core.Bool.{Bool, false}
 use Prim.Native.Nat.{ℕ}
+use lib.ListN.{length, take}
+use Rattle.std.specs.List.{fold}
+use Rattle.std.proofs.lemmas.Iterator.{YieldsList-from_zip}
+use Rattle.std.proofs.lemmas.Iterator.Adapters.{YieldsList-from_rev_slice}
+use Rattle.std.proofs.lemmas.Iterator.Consumers.{fold_from_yields_List}
+use borrow.Author.Rules.{rules}
+use borrow.Author.Tests.{tests}
+use Rattle.table.specs.Table.{lanes}
+use Rattle.protocol.specs.States.{listed}
+use Rattle.protocol.specs.Point.{marks_of}
+use Rattle.journal.proofs.MarkLaws.{pairs_back}
+use Rattle.journal.proofs.CountLaws.{looked_at, unseen_fold}
 use Rattle.journal.proofs.marks.unseen_below.Goals as goal
-
-pub loop-i-init : goal.loop-i-init
-loop-i-init c =
-    let a = c.args in
-    let e = c.listed_in-i.ensures in
-    let long : length a.x.w ≡ lanes = search rules in
-    let s = unseen_start a.x.w a.x.v a.position a.j long e.count in
-    (e.room, omega arith, long, s.0, s.1)
-
-pub loop-i-preserved : goal.loop-i-preserved
-loop-i-preserved c =
-    let a = c.args in
-    let l = c.loop-i in
-    let s = unseen_step a.x.w a.x.v a.position a.j l.invariant.2 c.loop-i-test.true l.invariant.1 l.invariant.3 l.invariant.4 c.lane_at-number.ensures c.lane_at-seen.ensures c.one_less-next.ensures in
-    (omega arith, omega arith, l.invariant.2, s.0, s.1)
 
 pub returns : goal.returns
 returns c =
     let a = c.args in
-    let l = c.loop-i in
-    let z : l.i ≡ 0 = omega arith in
-    l.invariant.4 ∙ ap (λ (k : ℕ). unseen_below a.position a.x.w a.x.v (drop k (marks_of a.j))) z
+    let n = c.listed_in-n.result in
+    let long : length a.x.w ≡ lanes = search rules in
+    let ps : length a.j.positions ≡ listed = search rules in
+    let ls : length a.j.lanes ≡ listed = search rules in
+    ap (λ (s : List ℕ × Bool). s.1)
+    (fold_from_yields_List _ (looked_at a.position c.args.x.v) (a.x.w, false) _ c.fold-unseen.ensures.ran (YieldsList-from_zip (YieldsList-from_rev_slice (take n a.j.positions) cc) (YieldsList-from_rev_slice (take n a.j.lanes) cc)) (λ left x b q k. search (rules, tests))
+    ∙ ap (λ (r : List (ℕ × ℕ)). fold (looked_at a.position c.args.x.v) (a.x.w, false) r) (pairs_back a.j (ls ∙ sym ps) c.listed_in-n.ensures.count)
+    ∙ unseen_fold a.position a.x.w c.args.x.v (marks_of a.j) long)

@@ -1,28 +1,19 @@
-use Rattle.journal.proofs.PointLaws.{map_more, map_all}
-use Rattle.protocol.specs.Checkpoint.{covered_point, covered_points}
-use Rattle.table.proofs.Arrays.{length_of_map}
-use Rattle.protocol.specs.States.{points_max}
-use lib.ListN.{length, length-set}
+-- `journal::points::covered_points` meets its contract. Assumes nothing.
+use mathlib.Core.Path.{◌≡◌, refl, sym, ◌∙◌}
+use lib.ListN.{length}
 use borrow.Author.Rules.{rules}
+use borrow.Author.Tests.{tests}
 use native.Mathlib.Omega.{arith}
-use mathlib.Core.Path.{◌≡◌, refl}
-use Prim.Native.Nat.{◌-◌}
+use Rattle.table.proofs.Arrays.{length_of_map}
+use Rattle.protocol.specs.States.{points_max, no_point}
+use Rattle.protocol.specs.Checkpoint.{covered_point, covered_points}
+use Rattle.journal.proofs.PointLaws.{mapped}
 use Rattle.journal.proofs.points.covered_points.Goals as goal
-
-pub loop-i-init : goal.loop-i-init
-loop-i-init c = (omega arith, search (rules, length_of_map), refl)
-
-pub loop-i-preserved : goal.loop-i-preserved
-loop-i-preserved c =
-    let p = c.args.p in
-    let l = c.loop-i in
-    let long : length p.items ≡ points_max = search (rules, length_of_map) in
-    (omega arith, simp length-set l.invariant.1, map_more covered_point p.items l.i _ (omega arith) l.invariant.2 c.covered_point-next.ensures)
 
 pub returns : goal.returns
 unfolding covered_points
 returns c =
     let p = c.args.p in
-    let l = c.loop-i in
     let long : length p.items ≡ points_max = search (rules, length_of_map) in
-    rw (map_all covered_point p.items l.i (omega arith) l.invariant.2)
+    let m = c.map.ensures.items in
+    rw (mapped covered_point p.items c.map.result no_point (m.long ∙ sym long) (λ i h. let q = m.at i no_point (covered_point no_point) (omega arith) in search (rules, tests))) refl

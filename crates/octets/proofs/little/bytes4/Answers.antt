@@ -1,8 +1,7 @@
--- `octets::little::bytes4` meets its contract: the code divides as the definition does. Assumes nothing.
-use Rattle.octets.specs.Little.{little_bytes}
-use mathlib.Core.Path.{refl}
+-- `octets::little::bytes4` meets its contract: the library's bytes, the lowest first. Assumes nothing.
+use Rattle.std.proofs.Common.{◌∙◌}
+use Rattle.octets.proofs.WidthLaws.{le_bytes}
 use Rattle.octets.proofs.little.bytes4.Goals as goal
 
 pub returns : goal.returns
-unfolding little_bytes
-returns c = refl
+returns c = c.to_le_bytes.ensures ∙ le_bytes 4 c.args.x

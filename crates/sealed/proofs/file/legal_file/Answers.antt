@@ -1,10 +1,11 @@
--- `sealed::file::legal_file` meets its contract: the length is tested first, and then the four bytes. Assumes nothing.
-use Rattle.sealed.proofs.FileLaws.{not_file, file_bytes_law}
-use mathlib.Core.Path.{sym}
+-- `sealed::file::legal_file` meets its contract: the length is tested, and the four bytes. Assumes nothing.
+use Rattle.std.proofs.Common.{◌∙◌, ap, ◌&&◌, eqb, length}
+use Rattle.sealed.specs.Checkpoint.{file_len}
+use Rattle.sealed.proofs.FileLaws.{file_starts, of_length}
 use Rattle.sealed.proofs.file.legal_file.Goals as goal
 
-pub returns-then-s-ne-FILE_LEN : goal.returns-then-s-ne-FILE_LEN
-returns-then-s-ne-FILE_LEN c = sym (not_file c.args.s.now c.if-s-ne-FILE_LEN.true)
+pub returns-clause-answer : goal.returns-clause-answer
+returns-clause-answer c = let s = c.args.s.now in ap (λ b. eqb (length s) file_len && b) c.starts_with.ensures.value ∙ file_starts s
 
-pub returns : goal.returns
-returns c = sym (file_bytes_law c.args.s.now c.if-s-ne-FILE_LEN.false)
+pub returns-clause-length : goal.returns-clause-length
+returns-clause-length c = of_length (length c.args.s.now) file_len c.starts_with.result

@@ -14,6 +14,7 @@ use Rattle.sealed.proofs.FrameLaws.{framed_laid, prepared_grows}
 use Rattle.sealed.proofs.FileLaws.{length_head, file_short, file_done}
 use mathlib.Core.Path.{◌≡◌, refl, ap₂, ◌∙◌}
 use Prim.Native.Nat.{ℕ}
+use borrow.Author.Rules.{rules}
 use Rattle.sealed.proofs.file.seal_file.Goals as goal
 
 pub returns-then-out-lt-FILE_LEN : goal.returns-then-out-lt-FILE_LEN
@@ -29,12 +30,10 @@ returns c =
     let out = g.out.now in
     let nonce = file_nonce g.seal in
     let head = file_head g.version g.seal in
-    let a = prepared_by g.w.now g.m.now in
-    -- what is known of the table's entries
-    let known = c.well_formed.1.1.1.1.0.1.1.0 in
-    let n : length g.t.entries ≡ meters = search (length_of_map, known) in
+    let a = prepared_by g.k.schedule.now g.k.multiples.now in
+    let n : length g.t.entries ≡ meters = search (rules, length_of_map) in
     let b = put_mid head_len table_len out c.put_text.new.s in
     let all = file_done out _ room
-    (framed_laid a (prepared_grows g.w.now g.m.now) nonce head (table_text g.t) out _ table_len table_len (length_head g.version g.seal) (length_table g.t n) refl room c.put_text.ensures
+    (framed_laid a (prepared_grows g.k.schedule.now g.k.multiples.now) nonce head (table_text g.t) out _ table_len table_len (length_head g.version g.seal) (length_table g.t n) refl room c.put_text.ensures
     (c.put_framed.ensures ∙ ap₂ (λ (n h : List ℕ). put_over (framed a n h (take table_len (drop head_len b))) b) c.nonce_of.ensures c.head_of.ensures)) in
     record { answer = all.0; buffer = all.1 }

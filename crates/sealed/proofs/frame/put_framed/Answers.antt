@@ -12,7 +12,7 @@ use lib.ListN.{length, take}
 use mathlib.Core.List.{◌++◌}
 use borrow.Author.Rules.{rules}
 use native.Mathlib.Omega.{arith}
-use mathlib.Core.Path.{◌≡◌, sym, ap, ◌∙◌}
+use mathlib.Core.Path.{◌≡◌, ap, ◌∙◌}
 use Prim.Native.Nat.{◌+◌, ◌-◌}
 use Rattle.sealed.proofs.frame.put_framed.Goals as goal
 
@@ -26,17 +26,17 @@ returns c =
     let h = a.head in
     let o = a.out.now in
     let o1 = c.copy.new.dst in
-    let y = c.seal_with.new.buf in
+    let y = c.seal.new.buf in
     let o2 = put_mid head_len (length o1 - head_len) o1 y in
     let t = c.bytes4-trailer.result in
     let z = c.copy-2.new.dst in
     let f = head_len + n + tag_len in
     let lh : length h ≡ head_len = search rules in
     let l1 : length o1 ≡ length o = c.copy.auto.dst in
-    let ly : length y ≡ length (mid_of head_len (length o1 - head_len) o1) = c.seal_with.auto.buf in
+    let ly : length y ≡ length (mid_of head_len (length o1 - head_len) o1) = c.seal.auto.buf in
     let l2 : length o2 ≡ length o1 = same_len_mid head_len (length o1 - head_len) o1 y ly in
     let e2 : o2 ≡ take head_len o1 ++ y = put_rest head_len o1 y (omega arith) in
     put_rest f o2 z (omega arith)
-    ∙ put_around a.w.now a.m.now a.nonce o h n lh c.requires.0 c.requires.1 o1 o2 y t z f (omega arith) c.copy.ensures
-    (c.seal_with.ensures.buffer ∙ ap (sealed_in (cipher a.w.now) (product_by a.m.now) a.nonce h n) (mid_rest head_len o1)) e2 c.bytes4-trailer.ensures
+    ∙ put_around a.k.schedule.now a.k.multiples.now a.nonce o h n lh c.requires.0 c.requires.1 o1 o2 y t z f (omega arith) c.copy.ensures
+    (c.seal.ensures.buffer ∙ ap (sealed_in (cipher a.k.schedule.now) (product_by a.k.multiples.now) a.nonce h n) (mid_rest head_len o1)) e2 c.bytes4-trailer.ensures
     (c.copy-2.ensures ∙ ap (over t) (mid_rest f o2))

@@ -21,11 +21,11 @@ returns-then-trailer-s c =
     let a = c.args in
     let s = a.s.now in
     let t = c.u32_in-trailer.ensures.number ∙ ap (λ (l : List ℕ). little (padded trailer_len l)) (mid_rest (length s - trailer_len) s) in
-    let e = unframe_not a.w.now a.m.now a.nonce s c.requires.0 _ t c.if-trailer-s.true in
+    let e = unframe_not a.k.schedule.now a.k.multiples.now a.nonce s c.requires.0 _ t c.if-trailer-s.true in
     record { answer = sym (ap is_some e); buffer = sym (ap (λ (p : Option (List ℕ)). put_over (text_put p) a.out.now) e) }
 
-pub slice_bounds-open_with-end : goal.slice_bounds-open_with-end
-slice_bounds-open_with-end c = sym (length-take-le _ c.args.s.now (omega arith))
+pub slice_bounds-open-end : goal.slice_bounds-open-end
+slice_bounds-open-end c = sym (length-take-le _ c.args.s.now (omega arith))
 
 pub returns : goal.returns
 unfolding trailer_of
@@ -33,6 +33,6 @@ returns c =
     let a = c.args in
     let s = a.s.now in
     let t = c.u32_in-trailer.ensures.number ∙ ap (λ (l : List ℕ). little (padded trailer_len l)) (mid_rest (length s - trailer_len) s) in
-    let all = unframe_opens a.w.now a.m.now a.nonce s c.requires.0 _ a.out.now _ _ _ t c.if-trailer-s.false c.requires.1 c.requires.2
-    c.open_with.ensures.answer c.is_text.ensures c.open_with.ensures.buffer in
+    let all = unframe_opens a.k.schedule.now a.k.multiples.now a.nonce s c.requires.0 _ a.out.now _ _ _ t c.if-trailer-s.false c.requires.1 c.requires.2
+    c.open.ensures.answer c.is_ok.ensures.value c.open.ensures.buffer in
     record { answer = all.0; buffer = all.1 }

@@ -1,0 +1,236 @@
+// The bench: what a command of the script finds, and what each word does with it.
+use super::buffer::{Buffer, first};
+use super::made;
+use super::script::Command;
+use super::words::Word;
+use super::write::{self, Answer, Coded, Reading};
+use collector::Collector;
+use protocol::{State, Store, Vault};
+use sealed::record::RECORD_KIND;
+use std::alloc::{AllocError, Global};
+use std::io;
+use transaction::MIN_TEXT;
+
+// What stands in the room that is lent to a call, before it.
+const BEFORE: u8 = 165;
+
+// Vault numbers, a collector, one that was put aside, what calls are handed, and the room that the last of them was lent.
+#[derive(Drop)]
+pub struct Bench {
+    alloc: Global,
+    numbers: Vault,
+    collector: Collector,
+    kept: Collector,
+    text: Buffer,
+    file: Buffer,
+    log: Buffer,
+    out: Vec<u8>,
+}
+
+// A call that is lent room for so many bytes, each 165 before.
+fn lent<T, F: FnOnce(&mut [u8]) -> T>(out: &mut Vec<u8>, room: usize, call: F) -> T
+    requires { F.IsAlwaysCallable call }
+{
+    out.as_mut_slice().fill(BEFORE);
+    let n = room.min(out.len());
+    call(&mut out[..n])
+}
+
+impl Bench {
+    pub fn new(alloc: Global) -> Result<Bench, AllocError> {
+        let numbers = vault::new_vault();
+        let collector = made::cold(numbers);
+        Ok(Bench {
+            alloc,
+            numbers,
+            collector,
+            kept: collector,
+            text: Buffer::new(alloc, 512)?,
+            file: Buffer::new(alloc, 6185)?,
+            log: Buffer::new(alloc, 262145)?,
+            out: vec![in alloc; 0u8; 6185]?,
+        })
+    }
+
+    // A command carried out.
+    pub fn step(&mut self, rt: &impl Print, m: Command<'_>) -> io::Result<()> {
+        self.counts(m);
+        self.makes(m);
+        self.hands(m);
+        self.log.frames(self.alloc, m)?;
+        self.calls(rt, m)?;
+        self.shows(rt, m)
+    }
+
+    // What it makes of the vault's numbers: new ones, or a store done.
+    fn counts(&mut self, m: Command<'_>) {
+        let (lane, value) = (m.byte(), m.b);
+        let store = match m.word {
+            Word::New => {
+                self.numbers = vault::new_vault();
+                return;
+            }
+            Word::SetW => Store::W { lane, value },
+            Word::SetV => Store::V { lane, value },
+            Word::SetR => Store::R { lane, value },
+            Word::SetE => Store::E { value: m.a },
+            Word::SetS => Store::S { value: m.a },
+            Word::SetN => Store::N { value: m.a },
+            _ => return,
+        };
+        self.numbers = vault::after(self.numbers, store);
+    }
+
+    // The state of the collector changed.
+    fn change<F: FnOnce(&mut State)>(&mut self, change: F)
+        requires { F.IsAlwaysCallable change }
+    {
+        let mut state = self.collector.state();
+        change(&mut state);
+        self.collector = Collector::of(state);
+    }
+
+    // What it makes of the collector.
+    fn makes(&mut self, m: Command<'_>) {
+        match m.word {
+            Word::Cold => self.collector = made::cold(self.numbers),
+            Word::Serving => self.collector = made::serving(self.numbers),
+            Word::Listed => self.change(|state| state.journal.count = m.size()),
+            Word::Points => self.change(|state| state.points.count = m.size()),
+            Word::Newest => self.change(|state| {
+                state.points.any = true;
+                state.points.newest = m.a;
+            }),
+            Word::Keep => self.kept = self.collector,
+            Word::Again => self.collector = self.kept,
+            _ => {}
+        }
+    }
+
+    // A transaction of stamp 100 and so many writes to meters 0 and up, each of code 1 and reading 7.
+    fn writes(&mut self, k: u64) {
+        self.text.put(0, &[100, 0, 0, 0, 0, 0, 0, 0]);
+        for meter in 0..60u8 {
+            self.text
+                .put(8 + 8 * meter as usize, &[meter, 0, 1, 0, 7, 0, 0, 0]);
+        }
+        self.text.len = 8 + 8 * (k % 61) as usize;
+    }
+
+    // The record of the transaction, lane 0, of a number and an epoch, sealed by a collector of its own and added to the log.
+    fn record(&mut self, number: u64, epoch: u64) {
+        let w = Store::W {
+            lane: 0,
+            value: number.wrapping_sub(1),
+        };
+        let e = Store::E { value: epoch };
+        let x = vault::after(vault::after(vault::new_vault(), w), e);
+        let c = made::serving(x).accept(self.text.given(), 0, 0).collector;
+        if let Some(room) = self.log.behind() {
+            c.seal(room);
+        }
+        self.log.grow(self.text.len.wrapping_add(sealed::FRAME_LEN));
+    }
+
+    // What it makes of the transaction, the file and the log that calls are handed.
+    fn hands(&mut self, m: Command<'_>) {
+        match m.word {
+            Word::Writes => self.writes(m.a),
+            Word::TextByte => self.text.set(m.size(), (m.b % 256) as u8),
+            Word::TextLength => self.text.len = m.size(),
+            Word::File => {
+                self.file.put(0, self.out.as_slice());
+                self.file.len = m.size();
+            }
+            Word::FileTurn => self.file.turn(m.size()),
+            Word::FileLength => self.file.len = m.size(),
+            Word::Log => self.log.clear(m.size()),
+            Word::LogAdd => self.log.add(first(self.out.as_slice(), m.size()), m.size()),
+            Word::Record => self.record(m.a, m.b),
+            Word::LogTurn => self.log.turn(m.size()),
+            Word::LogLength => self.log.len = m.size(),
+            _ => {}
+        }
+    }
+
+    // The call that it is, and what that answered.
+    fn calls(&mut self, rt: &impl Print, m: Command<'_>) -> io::Result<()> {
+        let name = m.name;
+        let room = m.size();
+        let c = self.collector;
+        let handed = match m.word {
+            Word::Load => Collector::load(self.numbers, first(b"sixteen of bytes.", m.size())),
+            Word::Accept => c.accept(self.text.given(), m.byte(), m.b),
+            Word::Commit => c.commit(self.log.given()),
+            Word::Point => c.point(m.a),
+            Word::Truncate => c.truncate(m.a),
+            Word::Seal => lent(&mut self.out, room, |out| c.seal(out)),
+            Word::Checkpoint => lent(&mut self.out, room, |out| c.checkpoint(out)),
+            Word::Recover => {
+                let file = self.file.given();
+                let log = self.log.given();
+                lent(&mut self.out, room, |out| c.recover(file, log, out))
+            }
+            Word::FromBus => return self.from_bus(rt, m),
+            _ => return Ok(()),
+        };
+        self.collector = handed.collector;
+        if name.is_empty() {
+            return Ok(());
+        }
+        write::line(rt, name, Answer(handed.outcome))
+    }
+
+    // The reading in the frame, as a transaction, and whether all that was not put out is as it was.
+    fn from_bus(&mut self, rt: &impl Print, m: Command<'_>) -> io::Result<()> {
+        let name = m.name;
+        let frame = self.log.given();
+        let meter = (m.b % 65536) as u16;
+        let heard = lent(
+            &mut self.out,
+            m.size(),
+            |out| bus::from_bus(frame, meter, m.c, out),
+        );
+        if name.is_empty() {
+            return Ok(());
+        }
+        let out = self.out.as_slice();
+        let put = if heard.is_ok() { MIN_TEXT } else { 0 };
+        let kept = out.iter().skip(put).all(|b| *b == BEFORE);
+        write::line(rt, name, Reading { heard, out, kept })
+    }
+
+    // How many numbers of lane 0 a point counts; none where there is no such point.
+    fn counted(&self, position: u64) -> u64 {
+        let points = self.collector.state().points;
+        match journal::points::find_point(points, position) {
+            Some(point) => point.counts[0],
+            None => 0,
+        }
+    }
+
+    // What it shows else.
+    fn shows(&self, rt: &impl Print, m: Command<'_>) -> io::Result<()> {
+        let name = m.name;
+        let c = self.collector;
+        match m.word {
+            Word::Put => {
+                let byte = self.out.get(m.size()).copied().unwrap_or(0);
+                write::line(rt, name, byte)
+            }
+            Word::Number => write::line(rt, name, c.reading(m.byte()).number),
+            Word::Lane => write::line(rt, name, c.reading(m.byte()).lane),
+            Word::Counts => write::line(rt, name, self.counted(m.a)),
+            Word::Sbox => write::line(rt, name, Coded(aes_key::sbox_table()[m.byte() as usize])),
+            Word::Nonce => {
+                rt.write_all(name)?;
+                print!(rt; ":")?;
+                for x in sealed::nonce_of(RECORD_KIND, m.byte(), m.b) {
+                    print!(rt; " {x}")?;
+                }
+                println!(rt; "")
+            }
+            _ => Ok(()),
+        }
+    }
+}

@@ -1,2 +1,0 @@
--- CarryLaws: an answer carried over the boundary.
-pub mod CarryLaws

@@ -1,5 +1,0 @@
--- `vault::set_r` meets its contract: the lanes' numbers with one of them set stand in their place. Assumes nothing.
-use Rattle.vault.proofs.set_r.Goals as goal
-
-pub returns : goal.returns
-returns c = rw c.lane_set-r.ensures
