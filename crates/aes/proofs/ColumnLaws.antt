@@ -5,7 +5,7 @@ use mathlib.Core.List.{List, [], ◌∷◌, ◌++◌}
 use Prim.Native.Nat.{ℕ, ◌+◌, ◌*◌, ◌/◌, ◌%◌, ◌^◌, ◌<◌}
 use native.Mathlib.Nat.{div-one}
 use native.Mathlib.Omega.{arith}
-use lib.Bits.{xor_shr, xor_mod, xor_block}
+use lib.Bits.{bit_and, bit_or, and_mask, or_shifted, xor_shr, xor_mod, xor_block}
 use lib.Pow.{high, low}
 use Rattle.octets.specs.Bytes.{bytes_of}
 use Rattle.octets.proofs.ByteLaws.{bytes_split, bytes_mod, bytes_words}
@@ -48,6 +48,16 @@ word_xor a b c d e f g h hb hc hd hf hg hh =
     xor_block 8 ((a * 256 + b) * 256 + c) ((e * 256 + f) * 256 + g) d h hd hh
     ∙ ap (λ (x : ℕ). x * 256 + (d ⊕ h)) (xor_block 8 (a * 256 + b) (e * 256 + f) c g hc hg)
     ∙ ap (λ (x : ℕ). (x * 256 + (c ⊕ g)) * 256 + (d ⊕ h)) (xor_block 8 a e b f hb hf)
+
+-- ---- halves of a word
+
+pub low32 : (n : ℕ) → bit_and n 4294967295 ≡ n % 4294967296
+low32 n = and_mask n 32
+
+pub two_halves : (a b : ℕ) → a < 2 ^ 32 → b < 2 ^ 32 → bit_or (a * 4294967296 % 18446744073709551616) b ≡ a * 4294967296 + b
+two_halves a b ha hb =
+    let e : a * 4294967296 % 18446744073709551616 ≡ a * 2 ^ 32 = omega arith in
+    ap (λ (n : ℕ). bit_or n b) e ∙ or_shifted a 32 b hb
 
 -- ---- blocks
 

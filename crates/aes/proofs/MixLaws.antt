@@ -4,6 +4,7 @@ use mathlib.Core.Path.{◌≡◌, ap, ◌∙◌}
 use mathlib.Core.List.{List, [], ◌∷◌}
 use Prim.Native.Nat.{ℕ, ◌+◌, ◌*◌, ◌/◌, ◌%◌, ◌^◌, ◌<◌}
 use native.Mathlib.Omega.{arith}
+use lib.Bits.{bit_and}
 use lib.Pow.{high, low}
 use lib.ListN.{get_or}
 use Rattle.aes_key.specs.Gf.{◌⊕◌, ◌•◌}
@@ -13,7 +14,7 @@ use Rattle.aes_key.proofs.GfLaws.{xor8, two_lt, three_lt}
 use Rattle.aes_key.proofs.SboxLaws.{sbox_lt}
 use Rattle.aes.specs.Cipher.{column, mix_column}
 use Rattle.aes.specs.Rounds.{spread, IsRound}
-use Rattle.aes.proofs.ColumnLaws.{column_word, word_xor}
+use Rattle.aes.proofs.ColumnLaws.{column_word, word_xor, low32}
 
 -- a word written twice, read from its byte 0, 3, 2 or 1 on
 turn0 : (a b c d : ℕ) → a < 256 → b < 256 → c < 256 → d < 256 → (word a b c d * 4294967296 + word a b c d) % 4294967296 ≡ word a b c d
@@ -48,28 +49,28 @@ module _ (t : List ℕ) (rule : IsRound t) (k : ℕ) (h : k < 256) where
   s_lt : sbox k < 256
   s_lt = sbox_lt k
 
-  row0 : get_or t k 0 % 4294967296 ≡ word (2 • sbox k) (sbox k) (sbox k) (3 • sbox k)
+  row0 : bit_and (get_or t k 0) 4294967295 ≡ word (2 • sbox k) (sbox k) (sbox k) (3 • sbox k)
   unfolding spread
-  row0 = ap (λ (n : ℕ). n % 4294967296) (rule.entry k h) ∙ turn0 _ _ _ _ (two_lt _ s_lt) s_lt s_lt (three_lt _ s_lt)
+  row0 = low32 (get_or t k 0) ∙ ap (λ (n : ℕ). n % 4294967296) (rule.entry k h) ∙ turn0 _ _ _ _ (two_lt _ s_lt) s_lt s_lt (three_lt _ s_lt)
 
-  row1 : get_or t k 0 / 256 % 4294967296 ≡ word (3 • sbox k) (2 • sbox k) (sbox k) (sbox k)
+  row1 : bit_and (get_or t k 0 / 256) 4294967295 ≡ word (3 • sbox k) (2 • sbox k) (sbox k) (sbox k)
   unfolding spread
-  row1 = ap (λ (n : ℕ). n / 256 % 4294967296) (rule.entry k h) ∙ turn1 _ _ _ _ (two_lt _ s_lt) s_lt s_lt (three_lt _ s_lt)
+  row1 = low32 (get_or t k 0 / 256) ∙ ap (λ (n : ℕ). n / 256 % 4294967296) (rule.entry k h) ∙ turn1 _ _ _ _ (two_lt _ s_lt) s_lt s_lt (three_lt _ s_lt)
 
-  row2 : get_or t k 0 / 65536 % 4294967296 ≡ word (sbox k) (3 • sbox k) (2 • sbox k) (sbox k)
+  row2 : bit_and (get_or t k 0 / 65536) 4294967295 ≡ word (sbox k) (3 • sbox k) (2 • sbox k) (sbox k)
   unfolding spread
-  row2 = ap (λ (n : ℕ). n / 65536 % 4294967296) (rule.entry k h) ∙ turn2 _ _ _ _ (two_lt _ s_lt) s_lt s_lt (three_lt _ s_lt)
+  row2 = low32 (get_or t k 0 / 65536) ∙ ap (λ (n : ℕ). n / 65536 % 4294967296) (rule.entry k h) ∙ turn2 _ _ _ _ (two_lt _ s_lt) s_lt s_lt (three_lt _ s_lt)
 
-  row3 : get_or t k 0 / 16777216 % 4294967296 ≡ word (sbox k) (sbox k) (3 • sbox k) (2 • sbox k)
+  row3 : bit_and (get_or t k 0 / 16777216) 4294967295 ≡ word (sbox k) (sbox k) (3 • sbox k) (2 • sbox k)
   unfolding spread
-  row3 = ap (λ (n : ℕ). n / 16777216 % 4294967296) (rule.entry k h) ∙ turn3 _ _ _ _ (two_lt _ s_lt) s_lt s_lt (three_lt _ s_lt)
+  row3 = low32 (get_or t k 0 / 16777216) ∙ ap (λ (n : ℕ). n / 16777216 % 4294967296) (rule.entry k h) ∙ turn3 _ _ _ _ (two_lt _ s_lt) s_lt s_lt (three_lt _ s_lt)
 
   plain : get_or t k 0 / 256 % 256 ≡ sbox k
   unfolding spread
   plain = ap (λ (n : ℕ). n / 256 % 256) (rule.entry k h) ∙ middle _ _ _ _ (two_lt _ s_lt) s_lt s_lt (three_lt _ s_lt)
 
 module _ (t : List ℕ) (rule : IsRound t) (a b c d : ℕ) (ha : a < 256) (hb : b < 256) (hc : c < 256) (hd : d < 256) where
-  pub mixed_is : column (get_or t a 0 % 4294967296 ⊕ get_or t b 0 / 256 % 4294967296 ⊕ get_or t c 0 / 65536 % 4294967296 ⊕ get_or t d 0 / 16777216 % 4294967296) ≡ mix_column (sbox a) (sbox b) (sbox c) (sbox d)
+  pub mixed_is : column (bit_and (get_or t a 0) 4294967295 ⊕ bit_and (get_or t b 0 / 256) 4294967295 ⊕ bit_and (get_or t c 0 / 65536) 4294967295 ⊕ bit_and (get_or t d 0 / 16777216) 4294967295) ≡ mix_column (sbox a) (sbox b) (sbox c) (sbox d)
   unfolding mix_column
   mixed_is =
       let sa = sbox_lt a in

@@ -33,10 +33,10 @@ impl From<Block> for Columns {
 
     fn from(b: Block) -> Columns {
         Columns {
-            a: (b.hi / 0x1_0000_0000) as u32,
-            b: (b.hi % 0x1_0000_0000) as u32,
-            c: (b.lo / 0x1_0000_0000) as u32,
-            d: (b.lo % 0x1_0000_0000) as u32,
+            a: (b.hi >> 32) as u32,
+            b: (b.hi & 0xffff_ffff) as u32,
+            c: (b.lo >> 32) as u32,
+            d: (b.lo & 0xffff_ffff) as u32,
         }
     }
 }
@@ -47,8 +47,8 @@ impl From<Columns> for Block {
 
     fn from(s: Columns) -> Block {
         Block {
-            hi: (s.a as u64) * 0x1_0000_0000 + s.b as u64,
-            lo: (s.c as u64) * 0x1_0000_0000 + s.d as u64,
+            hi: (s.a as u64) << 32 | s.b as u64,
+            lo: (s.c as u64) << 32 | s.d as u64,
         }
     }
 }
@@ -369,11 +369,15 @@ impl RoundTable {
     fn entries(&self, a: u32, b: u32, c: u32, d: u32) -> [u64; 4]
         ensures { let t = self.now.table in result ≡ at t (byte0 a) ∷ at t (byte1 b) ∷ at t (byte2 c) ∷ at t (byte3 d) ∷ [] }
     {
+        let [p, _, _, _] = a.to_be_bytes();
+        let [_, q, _, _] = b.to_be_bytes();
+        let [_, _, r, _] = c.to_be_bytes();
+        let [_, _, _, s] = d.to_be_bytes();
         [
-            self.table[(a / 0x100_0000 % 256) as usize],
-            self.table[(b / 0x1_0000 % 256) as usize],
-            self.table[(c / 0x100 % 256) as usize],
-            self.table[(d % 256) as usize],
+            self.table[p as usize],
+            self.table[q as usize],
+            self.table[r as usize],
+            self.table[s as usize],
         ]
     }
 
@@ -382,10 +386,10 @@ impl RoundTable {
         ensures { column result ≡ mix_column (sbox (byte0 a)) (sbox (byte1 b)) (sbox (byte2 c)) (sbox (byte3 d)) }
     {
         let [w, x, y, z] = self.entries(a, b, c, d);
-        let p = (w % 0x1_0000_0000) as u32;
-        let q = (x / 0x100 % 0x1_0000_0000) as u32;
-        let r = (y / 0x1_0000 % 0x1_0000_0000) as u32;
-        let s = (z / 0x100_0000 % 0x1_0000_0000) as u32;
+        let p = (w & 0xffff_ffff) as u32;
+        let q = (x >> 8 & 0xffff_ffff) as u32;
+        let r = (y >> 16 & 0xffff_ffff) as u32;
+        let s = (z >> 24 & 0xffff_ffff) as u32;
         p ^ q ^ r ^ s
     }
 
@@ -395,10 +399,10 @@ impl RoundTable {
     {
         let [w, x, y, z] = self.entries(a, b, c, d);
         aes_key::word_of(
-            (w / 0x100 % 256) as u8,
-            (x / 0x100 % 256) as u8,
-            (y / 0x100 % 256) as u8,
-            (z / 0x100 % 256) as u8,
+            w.to_le_bytes()[1],
+            x.to_le_bytes()[1],
+            y.to_le_bytes()[1],
+            z.to_le_bytes()[1],
         )
     }
 
@@ -441,10 +445,10 @@ pub fn encrypt(w: &[u32; 44], b: Block) -> Block
 pub fn next(b: Block) -> Block
     ensures { num result ≡ inc32 (num b) }
 {
-    let count = (b.lo % 0x1_0000_0000 + 1) % 0x1_0000_0000;
+    let count = ((b.lo & 0xffff_ffff) as u32).wrapping_add(1);
     Block {
         hi: b.hi,
-        lo: b.lo / 0x1_0000_0000 * 0x1_0000_0000 + count,
+        lo: b.lo >> 32 << 32 | count as u64,
     }
 }
 

@@ -4,7 +4,7 @@ use super::made;
 use super::script::Command;
 use super::words::Word;
 use super::write::{self, Answer, Coded, Reading};
-use collector::Collector;
+use collector::{Collector, Handed};
 use protocol::{State, Store, Vault};
 use sealed::record::RECORD_KIND;
 use std::alloc::{AllocError, Global};
@@ -54,30 +54,106 @@ impl Bench {
 
     // A command carried out.
     pub fn step(&mut self, rt: &impl Print, m: Command<'_>) -> io::Result<()> {
-        self.counts(m);
-        self.makes(m);
-        self.hands(m);
-        self.log.frames(self.alloc, m)?;
-        self.calls(rt, m)?;
-        self.shows(rt, m)
+        let name = m.name;
+        let size = m.size();
+        let (lane, value) = (m.byte(), m.b);
+        let count = m.count();
+        let c = self.collector;
+        match m.word {
+            Word::Nothing => {}
+            // The vault's numbers: new ones, or a store done.
+            Word::New => self.numbers = vault::new_vault(),
+            Word::SetW => self.store(Store::W { lane, value }),
+            Word::SetV => self.store(Store::V { lane, value }),
+            Word::SetR => self.store(Store::R { lane, value }),
+            Word::SetE => self.store(Store::E { value: m.a }),
+            Word::SetS => self.store(Store::S { value: m.a }),
+            Word::SetN => self.store(Store::N { value: m.a }),
+            // The collector.
+            Word::Cold => self.collector = made::cold(self.numbers),
+            Word::Serving => self.collector = made::serving(self.numbers),
+            Word::Listed => self.change(|state| state.journal.count = size),
+            Word::Points => self.change(|state| state.points.count = size),
+            Word::Newest => self.change(|state| {
+                state.points.any = true;
+                state.points.newest = m.a;
+            }),
+            Word::Keep => self.kept = c,
+            Word::Again => self.collector = self.kept,
+            // The transaction, the file and the log that calls are handed.
+            Word::Writes => self.writes(m.a),
+            Word::TextByte => self.text.set(size, (m.b % 256) as u8),
+            Word::TextLength => self.text.len = size,
+            Word::File => {
+                self.file.put(0, self.out.as_slice());
+                self.file.len = size;
+            }
+            Word::FileTurn => self.file.turn(size),
+            Word::FileLength => self.file.len = size,
+            Word::Log => self.log.clear(size),
+            Word::LogAdd => self.log.add(first(self.out.as_slice(), size), size),
+            Word::Record => self.record(m.a, m.b),
+            Word::LogTurn => self.log.turn(size),
+            Word::LogLength => self.log.len = size,
+            // The frame, in the log's place. It grows by what the command says, also where that is more than is put in.
+            Word::Frame => self.log.hold(m.bytes(self.alloc)?.as_slice(), count),
+            Word::Reply => self.log.reply(m.bytes(self.alloc)?.as_slice(), count),
+            Word::More => self.log.more(m.bytes(self.alloc)?.as_slice(), count),
+            Word::Filler => self.log.filler(size),
+            Word::Set => self.log.change(m.bytes(self.alloc)?.as_slice()),
+            Word::Sum => self.log.add_up(),
+            Word::Add => self.log.add(m.bytes(self.alloc)?.as_slice(), count),
+            Word::Cut => self.log.cut(size),
+            // The calls.
+            Word::Load => {
+                let handed = Collector::load(self.numbers, first(b"sixteen of bytes.", size));
+                self.answered(rt, name, handed)?;
+            }
+            Word::Accept => {
+                let handed = c.accept(self.text.given(), lane, value);
+                self.answered(rt, name, handed)?;
+            }
+            Word::Commit => {
+                let handed = c.commit(self.log.given());
+                self.answered(rt, name, handed)?;
+            }
+            Word::Point => self.answered(rt, name, c.point(m.a))?,
+            Word::Truncate => self.answered(rt, name, c.truncate(m.a))?,
+            Word::Seal => {
+                let handed = lent(&mut self.out, size, |out| c.seal(out));
+                self.answered(rt, name, handed)?;
+            }
+            Word::Checkpoint => {
+                let handed = lent(&mut self.out, size, |out| c.checkpoint(out));
+                self.answered(rt, name, handed)?;
+            }
+            Word::Recover => {
+                let file = self.file.given();
+                let log = self.log.given();
+                let handed = lent(&mut self.out, size, |out| c.recover(file, log, out));
+                self.answered(rt, name, handed)?;
+            }
+            Word::FromBus => self.from_bus(rt, m)?,
+            // What is shown else.
+            Word::Put => write::line(rt, name, self.out.get(size).copied().unwrap_or(0))?,
+            Word::Number => write::line(rt, name, c.reading(lane).number)?,
+            Word::Lane => write::line(rt, name, c.reading(lane).lane)?,
+            Word::Counts => write::line(rt, name, self.counted(m.a))?,
+            Word::Sbox => write::line(rt, name, Coded(aes_key::sbox_table()[lane as usize]))?,
+            Word::Nonce => {
+                rt.write_all(name)?;
+                print!(rt; ":")?;
+                for x in sealed::nonce_of(RECORD_KIND, lane, m.b) {
+                    print!(rt; " {x}")?;
+                }
+                println!(rt; "")?;
+            }
+        }
+        Ok(())
     }
 
-    // What it makes of the vault's numbers: new ones, or a store done.
-    fn counts(&mut self, m: Command<'_>) {
-        let (lane, value) = (m.byte(), m.b);
-        let store = match m.word {
-            Word::New => {
-                self.numbers = vault::new_vault();
-                return;
-            }
-            Word::SetW => Store::W { lane, value },
-            Word::SetV => Store::V { lane, value },
-            Word::SetR => Store::R { lane, value },
-            Word::SetE => Store::E { value: m.a },
-            Word::SetS => Store::S { value: m.a },
-            Word::SetN => Store::N { value: m.a },
-            _ => return,
-        };
+    // A store done.
+    fn store(&mut self, store: Store) {
         self.numbers = vault::after(self.numbers, store);
     }
 
@@ -88,23 +164,6 @@ impl Bench {
         let mut state = self.collector.state();
         change(&mut state);
         self.collector = Collector::of(state);
-    }
-
-    // What it makes of the collector.
-    fn makes(&mut self, m: Command<'_>) {
-        match m.word {
-            Word::Cold => self.collector = made::cold(self.numbers),
-            Word::Serving => self.collector = made::serving(self.numbers),
-            Word::Listed => self.change(|state| state.journal.count = m.size()),
-            Word::Points => self.change(|state| state.points.count = m.size()),
-            Word::Newest => self.change(|state| {
-                state.points.any = true;
-                state.points.newest = m.a;
-            }),
-            Word::Keep => self.kept = self.collector,
-            Word::Again => self.collector = self.kept,
-            _ => {}
-        }
     }
 
     // A transaction of stamp 100 and so many writes to meters 0 and up, each of code 1 and reading 7.
@@ -132,48 +191,8 @@ impl Bench {
         self.log.grow(self.text.len.wrapping_add(sealed::FRAME_LEN));
     }
 
-    // What it makes of the transaction, the file and the log that calls are handed.
-    fn hands(&mut self, m: Command<'_>) {
-        match m.word {
-            Word::Writes => self.writes(m.a),
-            Word::TextByte => self.text.set(m.size(), (m.b % 256) as u8),
-            Word::TextLength => self.text.len = m.size(),
-            Word::File => {
-                self.file.put(0, self.out.as_slice());
-                self.file.len = m.size();
-            }
-            Word::FileTurn => self.file.turn(m.size()),
-            Word::FileLength => self.file.len = m.size(),
-            Word::Log => self.log.clear(m.size()),
-            Word::LogAdd => self.log.add(first(self.out.as_slice(), m.size()), m.size()),
-            Word::Record => self.record(m.a, m.b),
-            Word::LogTurn => self.log.turn(m.size()),
-            Word::LogLength => self.log.len = m.size(),
-            _ => {}
-        }
-    }
-
-    // The call that it is, and what that answered.
-    fn calls(&mut self, rt: &impl Print, m: Command<'_>) -> io::Result<()> {
-        let name = m.name;
-        let room = m.size();
-        let c = self.collector;
-        let handed = match m.word {
-            Word::Load => Collector::load(self.numbers, first(b"sixteen of bytes.", m.size())),
-            Word::Accept => c.accept(self.text.given(), m.byte(), m.b),
-            Word::Commit => c.commit(self.log.given()),
-            Word::Point => c.point(m.a),
-            Word::Truncate => c.truncate(m.a),
-            Word::Seal => lent(&mut self.out, room, |out| c.seal(out)),
-            Word::Checkpoint => lent(&mut self.out, room, |out| c.checkpoint(out)),
-            Word::Recover => {
-                let file = self.file.given();
-                let log = self.log.given();
-                lent(&mut self.out, room, |out| c.recover(file, log, out))
-            }
-            Word::FromBus => return self.from_bus(rt, m),
-            _ => return Ok(()),
-        };
+    // What a call answered. Its collector is the one that the next call is handed.
+    fn answered(&mut self, rt: &impl Print, name: &[u8], handed: Handed) -> io::Result<()> {
         self.collector = handed.collector;
         if name.is_empty() {
             return Ok(());
@@ -206,31 +225,6 @@ impl Bench {
         match journal::points::find_point(points, position) {
             Some(point) => point.counts[0],
             None => 0,
-        }
-    }
-
-    // What it shows else.
-    fn shows(&self, rt: &impl Print, m: Command<'_>) -> io::Result<()> {
-        let name = m.name;
-        let c = self.collector;
-        match m.word {
-            Word::Put => {
-                let byte = self.out.get(m.size()).copied().unwrap_or(0);
-                write::line(rt, name, byte)
-            }
-            Word::Number => write::line(rt, name, c.reading(m.byte()).number),
-            Word::Lane => write::line(rt, name, c.reading(m.byte()).lane),
-            Word::Counts => write::line(rt, name, self.counted(m.a)),
-            Word::Sbox => write::line(rt, name, Coded(aes_key::sbox_table()[m.byte() as usize])),
-            Word::Nonce => {
-                rt.write_all(name)?;
-                print!(rt; ":")?;
-                for x in sealed::nonce_of(RECORD_KIND, m.byte(), m.b) {
-                    print!(rt; " {x}")?;
-                }
-                println!(rt; "")
-            }
-            _ => Ok(()),
         }
     }
 }

@@ -1,8 +1,5 @@
 // A frame of the wired bus: hexadecimal 68 L L 68, then L bytes, their sum, and 16. It stands in the log's place.
 use super::buffer::Buffer;
-use super::script::Command;
-use super::words::Word;
-use std::alloc::{AllocError, Global};
 
 // 68 L L 68, C, address, CI, and the fixed header, whose byte at place 14 is the medium.
 const HEAD: [u8; 19] =
@@ -20,7 +17,7 @@ impl Buffer {
     }
 
     // The sum of the frame put right.
-    fn add_up(&mut self) {
+    pub fn add_up(&mut self) {
         let end = self.from_end(2);
         let sum = self
             .part(4, end)
@@ -38,13 +35,13 @@ impl Buffer {
     }
 
     // These bytes, and nothing else.
-    fn hold(&mut self, given: &[u8], n: usize) {
+    pub fn hold(&mut self, given: &[u8], n: usize) {
         self.put(0, given);
         self.len = n;
     }
 
     // A frame of a medium, the first byte given, and records.
-    fn reply(&mut self, given: &[u8], n: usize) {
+    pub fn reply(&mut self, given: &[u8], n: usize) {
         let (medium, records) = given.split_first().unwrap_or((&0, given));
         self.put(0, &HEAD);
         self.set(MEDIUM_PLACE, *medium);
@@ -54,40 +51,28 @@ impl Buffer {
     }
 
     // Records behind those that it has.
-    fn more(&mut self, records: &[u8], n: usize) {
+    pub fn more(&mut self, records: &[u8], n: usize) {
         self.put(self.from_end(2), records);
         self.grow(n);
         self.close();
     }
 
     // So many bytes of filler behind them.
-    fn filler(&mut self, n: usize) {
+    pub fn filler(&mut self, n: usize) {
         self.fill(self.from_end(2), n.min(MOST_FILLER), 0x2f);
         self.grow(n);
         self.close();
     }
 
     // Its bytes from a place on, the first byte given.
-    fn change(&mut self, given: &[u8]) {
+    pub fn change(&mut self, given: &[u8]) {
         if let Some((place, bytes)) = given.split_first() {
             self.put(*place as usize, bytes);
         }
     }
 
-    // What a command makes of it. It grows by what the command says, also where that is more than is put in.
-    pub fn frames(&mut self, alloc: Global, m: Command<'_>) -> Result<(), AllocError> {
-        let n = m.count();
-        match m.word {
-            Word::Frame => self.hold(m.bytes(alloc)?.as_slice(), n),
-            Word::Reply => self.reply(m.bytes(alloc)?.as_slice(), n),
-            Word::More => self.more(m.bytes(alloc)?.as_slice(), n),
-            Word::Filler => self.filler(m.size()),
-            Word::Set => self.change(m.bytes(alloc)?.as_slice()),
-            Word::Sum => self.add_up(),
-            Word::Add => self.add(m.bytes(alloc)?.as_slice(), n),
-            Word::Cut => self.len = self.from_end(m.size()),
-            _ => {}
-        }
-        Ok(())
+    // So many bytes less.
+    pub fn cut(&mut self, n: usize) {
+        self.len = self.from_end(n);
     }
 }

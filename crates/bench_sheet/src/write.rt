@@ -85,10 +85,8 @@ impl fmt::Display for Reading<'_> {
                     "taken, stamp {stamp}, meter {meter}, code {code}, {spare}, reading {reading}"
                 )
             }
-            Err(BusError::Short(right)) => write!(f, "3, {right}"),
-            Err(BusError::Meter) => write!(f, "4"),
-            Err(BusError::Broken) => write!(f, "16"),
-            Err(BusError::Unusable) => write!(f, "17"),
+            Err(why @ BusError::Short(_)) => write!(f, "{}, {}", why.number(), why.value()),
+            Err(why) => write!(f, "{}", why.number()),
         }?;
         let rest = if self.kept { "kept" } else { "changed" };
         write!(f, ", the rest {rest}")

@@ -298,77 +298,77 @@ fn refused(number: u8, value: u64) -> Said
 }
 
 // What an outcome says.
-#[tactic(auto, unfolding(crate::specs::Replies::said_of, protocol::specs::Said::shown))]
-pub fn said_of(o: Outcome) -> Said
-    ensures { result ≡ said_of (shown o) }
-{
-    match o {
-        Ok(t) => named(t.store, t.len as u64),
-        Err(why) => refused(why.number(), why.value()),
+impl From<Outcome> for Said {
+    ghost from_gives = { λ o r. r ≡ said_of (shown o) };
+
+    #[tactic(auto, unfolding(crate::specs::Replies::said_of, protocol::specs::Said::shown))]
+    fn from(o: Outcome) -> Said {
+        match o {
+            Ok(t) => named(t.store, t.len as u64),
+            Err(why) => refused(why.number(), why.value()),
+        }
     }
 }
 
 // What a reply off the bus comes to.
-#[tactic(auto, unfolding(crate::specs::Replies::said_of, bus::specs::Answer::said_by))]
-pub fn said_of_bus(h: Result<(), BusError>) -> Said
-    ensures { result ≡ said_of (said_by h) }
-{
-    match h {
-        Ok(()) => named(Store::Nothing, MIN_TEXT as u64),
-        Err(BusError::Short(right)) => refused(3, right as u64),
-        Err(BusError::Meter) => refused(4, 0),
-        Err(BusError::Broken) => refused(16, 0),
-        Err(BusError::Unusable) => refused(17, 0),
+impl From<Result<(), BusError>> for Said {
+    ghost from_gives = { λ h r. r ≡ said_of (said_by h) };
+
+    #[tactic(auto, unfolding(crate::specs::Replies::said_of, bus::specs::Answer::said_by))]
+    fn from(h: Result<(), BusError>) -> Said {
+        match h {
+            Ok(()) => named(Store::Nothing, MIN_TEXT as u64),
+            Err(why) => refused(why.number(), why.value()),
+        }
     }
 }
 
 // What a heat split comes to.
-#[tactic(auto, unfolding(crate::specs::Replies::said_of, heat::specs::Answer::said_by))]
-pub fn said_of_split(h: Result<usize, SplitError>) -> Said
-    ensures { result ≡ said_of (split_by h) }
-{
-    match h {
-        Ok(len) => named(Store::Nothing, len as u64),
-        Err(SplitError::Short(right)) => refused(3, right as u64),
-        Err(SplitError::NoTables) => refused(4, 0),
-        Err(SplitError::CodeChanged) => refused(18, 0),
-        Err(SplitError::NothingUsed) => refused(19, 0),
+impl From<Result<usize, SplitError>> for Said {
+    ghost from_gives = { λ h r. r ≡ said_of (split_by h) };
+
+    #[tactic(auto, unfolding(crate::specs::Replies::said_of, heat::specs::Answer::said_by))]
+    fn from(h: Result<usize, SplitError>) -> Said {
+        match h {
+            Ok(len) => named(Store::Nothing, len as u64),
+            Err(why) => refused(why.number(), why.value()),
+        }
     }
 }
 
-// What a plain table comes to.
-#[tactic(auto, unfolding(crate::specs::Replies::said_of, heat::specs::Plain::plain_by))]
-pub fn said_of_plain(h: Result<(), NoRoom>) -> Said
-    ensures { result ≡ said_of (plain_by h) }
-{
-    match h {
-        Ok(()) => named(Store::Nothing, TABLE_LEN as u64),
-        Err(NoRoom) => refused(3, TABLE_LEN as u64),
+// What a plain table comes to. Its one refusal has no enum to ask for its number.
+impl From<Result<(), NoRoom>> for Said {
+    ghost from_gives = { λ h r. r ≡ said_of (plain_by h) };
+
+    #[tactic(auto, unfolding(crate::specs::Replies::said_of, heat::specs::Plain::plain_by))]
+    fn from(h: Result<(), NoRoom>) -> Said {
+        match h {
+            Ok(()) => named(Store::Nothing, TABLE_LEN as u64),
+            Err(NoRoom) => refused(3, TABLE_LEN as u64),
+        }
     }
 }
 
 // The reply of a call that answered so.
-#[tactic(auto, unfolding(crate::specs::Replies::reply_of, protocol::specs::Said::shown_as))]
-pub fn reply_of(a: Answer) -> Reply
-    ensures { result ≡ reply_of (shown_as a []) }
-{
-    Reply {
-        state: FlatState::from(a.state),
-        said: said_of(a.outcome),
+impl From<Answer> for Reply {
+    ghost from_gives = { λ a r. r ≡ reply_of (shown_as a []) };
+
+    #[tactic(auto, unfolding(crate::specs::Replies::reply_of, protocol::specs::Said::shown_as))]
+    fn from(a: Answer) -> Reply {
+        Reply {
+            state: FlatState::from(a.state),
+            said: Said::from(a.outcome),
+        }
     }
 }
 
-// The reply to a state that is not known: number 1, and the state as it came.
-#[tactic(auto, unfolding(crate::specs::Replies::not_a_state))]
+// The reply to a state that is not known: number 1, and the state as it came. No operation has seen it, so no `Refusal` says why.
+#[tactic(auto, unfolding(crate::specs::Replies::not_a_state, crate::specs::Replies::said_of))]
 pub fn not_a_state(s: FlatState) -> Reply
     ensures { result ≡ not_a_state s }
 {
-    let said = Said {
-        value: 0,
-        len: 0,
-        number: 1,
-        store: 0,
-        lane: 0,
-    };
-    Reply { state: s, said }
+    Reply {
+        state: s,
+        said: refused(1, 0),
+    }
 }

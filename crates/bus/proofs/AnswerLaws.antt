@@ -19,7 +19,7 @@ use Rattle.bus.specs.Medium.{code_of, unit_of}
 use Rattle.bus.specs.Records.{first_reading}
 use Rattle.protocol.specs.Said.{Told, turn_down}
 use Rattle.protocol.proofs.SaidLaws.{told_so}
-use Rattle.bus.specs.Answer.{said_by, code_in, reading_in, heard, from_bus}
+use Rattle.bus.specs.Answer.{number_of, values_of, said_by, code_in, reading_in, heard, from_bus}
 use Rattle.bus.specs.declared.BusError.{BusError}
 use Rattle.bus.specs.declared.BusError.TheVariants as E
 use Rattle.bus.proofs.FrameLaws.{bytes_at_law, unbroken_least}
@@ -55,17 +55,17 @@ code_is f u =
 
 module _ (f : List ℕ) (meter stamp room : ℕ) where
   pub answer_short : room < min_text → from_bus f meter stamp room ≡ turned (Err (E.Short min_text))
-  unfolding from_bus turn_down said_by
+  unfolding from_bus turn_down said_by number_of values_of
   answer_short h = rw (lt-ltb room min_text h)
 
   module _ (r : min_text ≤ room) where
     pub answer_meter : meters ≤ meter → from_bus f meter stamp room ≡ turned (Err E.Meter)
-    unfolding from_bus turn_down said_by
+    unfolding from_bus turn_down said_by number_of values_of
     answer_meter h = rw (le-ltb room min_text r, le-leb meters meter h)
 
     module _ (m : meter < meters) where
       pub answer_broken : unbroken f ≡ false → from_bus f meter stamp room ≡ turned (Err E.Broken)
-      unfolding from_bus turn_down said_by
+      unfolding from_bus turn_down said_by number_of values_of
       answer_broken e = rw (le-ltb room min_text r, lt-leb meters meter m, e)
 
       module _ (u : unbroken f ≡ true) where
@@ -74,7 +74,7 @@ module _ (f : List ℕ) (meter stamp room : ℕ) where
         answer_heard = rw (le-ltb room min_text r, lt-leb meters meter m, u)
 
         heard_none : reading_in (code_in f) f ≡ None → from_bus f meter stamp room ≡ turned (Err E.Unusable)
-        unfolding heard said_by
+        unfolding heard said_by number_of values_of
         heard_none e = answer_heard ∙ ap (heard meter stamp (code_in f)) e
 
         pub answer_medium : code_in f ≡ 0 → from_bus f meter stamp room ≡ turned (Err E.Unusable)
@@ -90,5 +90,5 @@ module _ (f : List ℕ) (meter stamp room : ℕ) where
           answer_none e = heard_none (reading_behind ∙ e)
 
           pub answer_taken : {z : ℤ} → first_reading (unit_of (code_in f)) (drop least_l (bytes_in f)) ≡ Some z → from_bus f meter stamp room ≡ written meter stamp (code_in f) z
-          unfolding heard said_by
+          unfolding heard said_by number_of values_of
           answer_taken e = answer_heard ∙ ap (heard meter stamp (code_in f)) (reading_behind ∙ e)

@@ -14,13 +14,23 @@ use Rattle.bus.specs.Records.{first_reading}
 use Rattle.bus.specs.declared.BusError.{BusError}
 use Rattle.bus.specs.declared.BusError.TheVariants as E
 
--- the numbers and values of the code's answers
+-- the number of each refusal, and the values returned with it
+unfoldable pub number_of : BusError → ℕ
+number_of (E.Short n) = 3
+number_of E.Meter = 4
+number_of E.Broken = 16
+number_of E.Unusable = 17
+
+unfoldable pub values_of : BusError → List ℕ
+values_of (E.Short n) = n ∷ []
+values_of E.Meter = []
+values_of E.Broken = []
+values_of E.Unusable = []
+
+-- the code's answers
 unfoldable pub said_by : Result (Unit {0}) BusError → Said
 said_by (Ok u) = taken S.Nothing min_text
-said_by (Err (E.Short n)) = refused 3 (n ∷ [])
-said_by (Err E.Meter) = refused 4 []
-said_by (Err E.Broken) = refused 16 []
-said_by (Err E.Unusable) = refused 17 []
+said_by (Err e) = refused (number_of e) (values_of e)
 
 -- ---- of a frame that is not broken
 

@@ -6,12 +6,12 @@
 #![tactic(auto)]
 
 ghost use Rattle.std.specs.Prelude.{◌≡◌, ◌%◌, ◌≤◌, IfSome, length};
-ghost use Rattle.octets.specs.Lists.{put_over};
+ghost use Rattle.octets.specs.Lists.{at, put_over};
 ghost use Rattle.bus.specs.Frame.{sum, reply_c, unbroken};
 ghost use Rattle.bus.specs.Medium.{code_of, listed, unit_of};
 ghost use Rattle.bus.specs.Digits.{pair_of, reading_of};
 ghost use Rattle.bus.specs.Records.{data_len, field_len, unusable_vif, look, first_reading};
-ghost use Rattle.bus.specs.Answer.{said_by, from_bus};
+ghost use Rattle.bus.specs.Answer.{number_of, values_of, said_by, from_bus};
 
 use octets::byte_at;
 use transaction::{METERS, MIN_TEXT, Write};
@@ -70,6 +70,33 @@ pub enum BusError {
     Broken,
     // It has no usable record.
     Unusable,
+}
+
+// The number and the value on the display (02, CR 1).
+impl BusError {
+    // The number.
+    #[tactic(auto, unfolding(crate::specs::Answer::number_of))]
+    pub fn number(self) -> u8
+        ensures { result ≡ number_of self }
+    {
+        match self {
+            BusError::Short(_) => 3,
+            BusError::Meter => 4,
+            BusError::Broken => 16,
+            BusError::Unusable => 17,
+        }
+    }
+
+    // The value returned with it, or 0 where there is none.
+    #[tactic(auto, unfolding(crate::specs::Answer::values_of))]
+    pub fn value(self) -> u64
+        ensures { result ≡ at (values_of self) 0 }
+    {
+        match self {
+            BusError::Short(right) => right as u64,
+            BusError::Meter | BusError::Broken | BusError::Unusable => 0,
+        }
+    }
 }
 
 // The sum of all bytes, modulo 256.

@@ -1,6 +1,8 @@
 // The collector (01, Operations): its state, and the operations as methods by value. A call hands the collector back with
 // its outcome: the one store that it names, or why it was turned down. The host carries out a named store before the
 // next call, and hands that call the collector last returned.
+//
+// Each method is one operation's call and its promise; all that they share is `Handed::from`.
 #![tactic(auto)]
 
 ghost use Rattle.std.specs.Prelude.{◌≡◌, [], length, get_or};

@@ -7,12 +7,12 @@ use Prim.Native.Nat.{ℕ, ◌+◌, ◌*◌, ◌^◌, ◌≤◌}
 use native.Mathlib.Nat.{le_of_eq}
 use native.Mathlib.Omega.{arith}
 use lib.Bits.{bit_xor}
-use Rattle.std.specs.Int.{w64, from_be_bytes}
-use lib.ListN.{length, get_or, take, drop, length-append, drop_of_length-le}
-use lib.Seq.{take_all, take_at, drop_at, get_or-drop}
+use Rattle.std.proofs.lemmas.List.{set-append_right}
+use lib.Dec.{lit≤}
+use lib.ListN.{length, take, drop, set, length-append, drop_of_length-le}
+use lib.Seq.{take_all, take_at, drop_at}
 use Rattle.octets.specs.Bytes.{number_from, number, bytes_of, padded, xor_bytes}
-use Rattle.octets.proofs.ByteLaws.{eight, padded_whole, padded_split, padded_from, number_split, length_bytes, bytes_xor}
-use Rattle.octets.proofs.WidthLaws.{be_number}
+use Rattle.octets.proofs.ByteLaws.{padded_whole, number_split, length_bytes, bytes_xor}
 use Rattle.octets.proofs.SameLaws.{same_refl}
 use Rattle.aes.specs.Cipher.{cipher}
 use Rattle.aes.specs.Counter.{inc32, gctr}
@@ -33,31 +33,19 @@ hash_parts dot a c =
 
 -- ---- the pre-counter block
 
-four : (l : List ℕ) → padded 4 l ≡ get_or l 0 0 ∷ get_or l 1 0 ∷ get_or l 2 0 ∷ get_or l 3 0 ∷ []
-unfolding padded
-four l = rw (padded_from 3 0 l, padded_from 2 1 l, padded_from 1 2 l, padded_from 0 3 l)
-
--- the IV's bytes, one by one, and a counter of 1
-abbrev eight_of : List ℕ → List ℕ
-eight_of iv = get_or iv 0 0 ∷ get_or iv 1 0 ∷ get_or iv 2 0 ∷ get_or iv 3 0 ∷ get_or iv 4 0 ∷ get_or iv 5 0 ∷ get_or iv 6 0 ∷ get_or iv 7 0 ∷ []
-
-abbrev four_of : List ℕ → List ℕ
-four_of iv = get_or iv 8 0 ∷ get_or iv 9 0 ∷ get_or iv 10 0 ∷ get_or iv 11 0 ∷ []
+abbrev zeros : List ℕ
+zeros = 0 ∷ 0 ∷ 0 ∷ 0 ∷ []
 
 abbrev one : List ℕ
 one = 0 ∷ 0 ∷ 0 ∷ 1 ∷ []
 
-twelve : (iv : List ℕ) → length iv ≡ 12 → eight_of iv ++ four_of iv ≡ iv
-twelve iv e =
-    sym (sym (padded_whole 12 iv e) ∙ padded_split 8 4 iv ∙ ap₂ (λ (s t : List ℕ). s ++ t) (eight iv) (four (drop 8 iv) ∙ simp get_or-drop))
-
-pub pre_words : (iv : List ℕ) (h l : ℕ) → length iv ≡ 12 → h ≡ from_be_bytes w64 (eight_of iv) → l ≡ from_be_bytes w64 (four_of iv ++ one)
-    → h * 2 ^ 64 + l ≡ pre_counter iv
+-- the IV's twelve bytes over zeros, and a 1 at the end
+pub pre_bytes : (iv x : List ℕ) → length iv ≡ 12 → x ≡ iv → number (padded 16 (set (x ++ zeros) 15 1)) ≡ pre_counter iv
 unfolding pre_counter number number_from
-pre_words iv h l e eh el =
-    ap₂ (λ (x y : ℕ). x * 2 ^ 64 + y) (eh ∙ be_number 7 (eight_of iv) refl) (el ∙ be_number 7 (four_of iv ++ one) refl)
-    ∙ sym (number_split (eight_of iv) (four_of iv ++ one) 8 refl) ∙ number_split (eight_of iv ++ four_of iv) one 4 refl
-    ∙ ap (λ (s : List ℕ). number s * 2 ^ 32 + 1) (twelve iv e)
+pre_bytes iv x e ex =
+    let placed : set (x ++ zeros) 15 1 ≡ iv ++ one = ap (λ (s : List ℕ). set (s ++ zeros) 15 1) ex ∙ set-append_right iv zeros 12 15 1 e (lit≤ tt) in
+    let whole : length (iv ++ one) ≡ 16 = length-append iv one ∙ ap (λ (n : ℕ). n + 4) e in
+    ap (λ (s : List ℕ). number (padded 16 s)) placed ∙ ap number (padded_whole 16 (iv ++ one) whole) ∙ number_split iv one 4 refl
 
 -- ---- the tag
 

@@ -69,10 +69,10 @@ pub const MULTIPLES_LEN: usize = ghash::TABLE_LEN;
 fn pre_counter(iv: [u8; 12]) -> Block
     ensures { num result ≡ pre_counter iv }
 {
-    Block {
-        hi: u64::from_be_bytes([iv[0], iv[1], iv[2], iv[3], iv[4], iv[5], iv[6], iv[7]]),
-        lo: u64::from_be_bytes([iv[8], iv[9], iv[10], iv[11], 0, 0, 0, 1]),
-    }
+    let mut j = [0u8; 16];
+    j[..12].copy_from_slice(&iv);
+    j[15] = 1;
+    octets::first_block(&j)
 }
 
 // Prepares a key in two parts: its schedule, and in m, of 1024 words, the multiples of its hash key. An m of another length

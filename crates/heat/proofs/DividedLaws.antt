@@ -13,8 +13,8 @@ use Rattle.std.specs.Prelude.{Option, Some, None, is_some}
 use Rattle.octets.specs.Lists.{at}
 use Rattle.transaction.specs.Transaction.{meters}
 use Rattle.heat.specs.Uses.{gain_of, use_in, listed_in, gains_in}
-use Rattle.heat.specs.Shares.{floor, total, remainder, missing, rank, share}
-use Rattle.heat.proofs.ShareLaws.{rank_same, rank_of_all}
+use Rattle.heat.specs.Shares.{house, floor, total, remainder, missing, rank, share}
+use Rattle.heat.proofs.ShareLaws.{rank_same, rank_of_all, share_most}
 
 -- ---- a test as a number
 
@@ -51,3 +51,12 @@ module _ (us : List (Option ℤ)) (rs : List ℕ) (m : ℕ) (h : m < meters) (so
   pub gets_none : missed ≤ n → x ≡ cond (listed_in us m) (share (listed_in us) (gains_in us) m) 0
   unfolding share
   gets_none l = let e = sym same ∙ le-ltb n missed l in rw (yes, e, part) (omega arith)
+
+-- ---- no share is more than the house
+
+pub shares_fit : (us : List (Option ℤ)) (ps : List ℕ) → ((m : ℕ) → m < meters → at ps m ≡ cond (listed_in us m) (share (listed_in us) (gains_in us) m) 0) → (m : ℕ) → m < meters → at ps m ≤ house
+shares_fit us ps q m h = rw (q m h) (go (listed_in us m))
+  where
+    go : (t : Bool) → cond t (share (listed_in us) (gains_in us) m) 0 ≤ house
+    go true = share_most (listed_in us) (gains_in us) m h
+    go false = omega arith

@@ -1,14 +1,19 @@
--- Numbers in decimal: a digit more, how long they are, and what they are read back as; and how the code writes them from the last digit on.
+-- Numbers in decimal: a digit more, how long they are, and what they are read back as; and how the code writes them, and bytes before them, from the last digit on.
 -- Assumes nothing.
-use Prim.Native.Nat.{ℕ, zero, suc, ◌+◌, ◌/◌, ◌%◌, ◌^◌, ◌<◌, ◌≤◌}
+use Prim.Native.Nat.{ℕ, zero, suc, ◌+◌, ◌-◌, ◌/◌, ◌%◌, ◌^◌, ◌<◌, ◌≤◌}
 use mathlib.Core.Path.{◌≡◌, refl, sym, ap, ◌∙◌}
 use mathlib.Core.Bool.{Bool, true, false}
 use mathlib.Core.List.{List, [], ◌∷◌, ◌++◌, append_assoc}
 use native.Mathlib.Nat.{not-suc-le-zero}
 use native.Mathlib.Omega.{arith}
 use lib.Dec.{ltb}
-use lib.ListN.{length, length-append}
+use lib.ListN.{length, take, drop, length-append, length-drop}
+use lib.Seq.{drop_at, drop-drop, length-take-le}
+use borrow.Rule.Slice.PartMut.{mid_of, put_mid}
 use borrow.Author.Tests.{ltb-true, ltb-false, lt-ltb, le-ltb}
+use Rattle.octets.specs.Lists.{over}
+use Rattle.octets.proofs.CopyLaws.{over_room}
+use Rattle.octets.proofs.PartLaws.{mid_rest, put_rest}
 use Rattle.heat.specs.Numerals.{zero_byte, numeral_within, numeral}
 
 -- ---- a digit more
@@ -63,3 +68,18 @@ digit_turn left s h = sym (append_assoc (numeral (left / 10)) ((zero_byte + left
 
 pub digit_last : (left : ℕ) (s : List ℕ) → left < 10 → (zero_byte + left) ∷ s ≡ numeral left ++ s
 digit_last left s h = ap (λ (t : List ℕ). t ++ s) (sym (numeral_digit left h))
+
+-- ---- other bytes before those from a place on
+
+pub put_before : (from at' n : ℕ) (s bytes : List ℕ) {part : List ℕ} → at' + length s ≡ from → from ≤ n → length bytes ≡ n → part ≡ over s (mid_of at' (n - at') bytes)
+    → drop at' (put_mid at' (n - at') bytes part) ≡ s ++ drop from bytes
+put_before from at' n s bytes {part} e h long is =
+    let rest = length-drop at' bytes in
+    ap (λ (k : ℕ). drop at' (put_mid at' (k - at') bytes part)) (sym long)
+    ∙ ap (drop at') (put_rest at' bytes part (omega arith))
+    ∙ drop_at (take at' bytes) part at' (length-take-le at' bytes (omega arith))
+    ∙ is
+    ∙ ap (λ (k : ℕ). over s (mid_of at' (k - at') bytes)) (sym long)
+    ∙ ap (over s) (mid_rest at' bytes)
+    ∙ over_room s (drop at' bytes) (omega arith)
+    ∙ ap (λ (t : List ℕ). s ++ t) (drop-drop (length s) at' bytes ∙ ap (λ (k : ℕ). drop k bytes) e)

@@ -17,7 +17,7 @@ use Rattle.heat.specs.Numerals.{numeral_within, numeral}
 use Rattle.heat.specs.declared.SplitError.{SplitError}
 use Rattle.heat.specs.declared.SplitError.TheVariants as E
 use Rattle.std.specs.Prelude.{Err}
-use Rattle.heat.specs.Answer.{said_by, two_tables, start_table, end_table, any_changed, split_of, heat_split, refused_line, shown_by, printed}
+use Rattle.heat.specs.Answer.{number_of, said_by, two_tables, start_table, end_table, any_changed, split_of, heat_split, refused_line, shown_by, printed}
 
 -- ---- what is taken has the length that is said
 
@@ -48,13 +48,10 @@ sized b room =
 
 nothing_put : (e : SplitError) (put : List ℕ) → shown_by (said_by (Err e)) put ≡ shown_by (said_by (Err e)) []
 unfolding said_by shown_by
-nothing_put (E.Short n) put = refl
-nothing_put E.NoTables put = refl
-nothing_put E.CodeChanged put = refl
-nothing_put E.NothingUsed put = refl
+nothing_put e put = refl
 
 pub line_fits : (e : SplitError) → length (shown_by (said_by (Err e)) []) ≤ text_max
-unfolding said_by shown_by refused_line numeral numeral_within
+unfolding said_by number_of shown_by refused_line numeral numeral_within
 line_fits (E.Short n) = omega arith
 line_fits E.NoTables = omega arith
 line_fits E.CodeChanged = omega arith

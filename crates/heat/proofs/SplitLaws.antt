@@ -17,13 +17,13 @@ use Rattle.table.specs.declared.Table.{Table}
 use Rattle.table.specs.TableText.{table_len, legal_entries, is_table}
 use Rattle.protocol.specs.Said.{Told, turn_down}
 use Rattle.heat.specs.Uses.{listed, gain, gain_of, AreUses, listed_in, gains_in}
-use Rattle.heat.specs.Shares.{house, total, share}
+use Rattle.heat.specs.Shares.{total, share}
 use Rattle.heat.specs.Text.{share_of, split_text}
-use Rattle.heat.specs.Answer.{start_bytes, end_bytes, two_tables, start_table, end_table, year_of, said_by, any_changed, split_of, heat_split}
+use Rattle.heat.specs.Answer.{start_bytes, end_bytes, two_tables, start_table, end_table, year_of, number_of, values_of, said_by, any_changed, split_of, heat_split}
 use Rattle.std.specs.Prelude.{ℤ, Option, Some, None, is_some, Ok, Err}
 use Rattle.heat.specs.declared.SplitError.{SplitError}
 use Rattle.heat.specs.declared.SplitError.TheVariants as E
-use Rattle.heat.proofs.ShareLaws.{total_same, share_same, share_most}
+use Rattle.heat.proofs.ShareLaws.{total_same, share_same}
 use Rattle.heat.proofs.UsesLaws.{use_listed, use_gain}
 
 -- ---- the shares, by what each meter used
@@ -44,13 +44,6 @@ module _ (s e : Table) (us : List (Option ℤ)) (are : AreUses s e us) where
     shares_found m h =
         q m h ∙ ap₂ (λ (t : Bool) (y : ℕ). cond t y 0) (listed_found m h) (share_same (listed_in us) (listed s e) (gains_in us) (gain s e) listed_found gain_found m h)
 
-    pub shares_fit : (m : ℕ) → m < meters → at ps m ≤ house
-    shares_fit m h = rw (q m h) (go (listed_in us m))
-      where
-        go : (t : Bool) → cond t (share (listed_in us) (gains_in us) m) 0 ≤ house
-        go true = share_most (listed_in us) (gains_in us) m h
-        go false = omega arith
-
 -- ---- the text, where it was put
 
 pub text_there : {x t : List ℕ} (d : List ℕ) {last : List ℕ} {n : ℕ} → last ≡ over x d → x ≡ t → n ≡ length x → n ≤ length d → take n last ≡ t
@@ -64,17 +57,17 @@ turned h = record { said = said_by (Err h); put = [] }
 
 module _ (s e : Table) (room : ℕ) where
   pub answer_changed : any_changed s e ≡ true → split_of s e room ≡ turned E.CodeChanged
-  unfolding split_of turn_down said_by
+  unfolding split_of turn_down said_by number_of values_of
   answer_changed c = rw c
 
   module _ (c : any_changed s e ≡ false) where
     pub answer_nothing : total (gain s e) ≡ 0 → split_of s e room ≡ turned E.NothingUsed
-    unfolding split_of turn_down said_by
+    unfolding split_of turn_down said_by number_of values_of
     answer_nothing t = rw (c, eq-eqb (total (gain s e)) 0 t)
 
     module _ (t : total (gain s e) ≡ 0 → ⊥) {n : ℕ} (long : n ≡ length (split_text s e)) where
       pub answer_short : room < n → split_of s e room ≡ turned (E.Short n)
-      unfolding split_of turn_down said_by
+      unfolding split_of turn_down said_by number_of values_of
       answer_short h = rw (c, ne_eqb (total (gain s e)) 0 t, ← long, lt-ltb room n h)
 
       pub answer_written : n ≤ room → split_of s e room ≡ record { said = said_by (Ok n); put = split_text s e }
@@ -107,7 +100,7 @@ module _ (b : List ℕ) where
 
   module _ (room : ℕ) where
     pub answer_none : two_tables b ≡ false → heat_split b room ≡ turned E.NoTables
-    unfolding heat_split turn_down said_by
+    unfolding heat_split turn_down said_by number_of values_of
     answer_none h = rw h
 
     pub answer_split : two_tables b ≡ true → heat_split b room ≡ split_of (start_table b) (end_table b) room

@@ -22,7 +22,7 @@ use Rattle.heat.specs.Uses.{difference, used, gain}
 use Rattle.heat.specs.Shares.{total}
 use Rattle.heat.specs.Text.{share_of, split_text, text_max}
 use Rattle.heat.specs.Rows.{Row, rows_below, rows_in}
-use Rattle.heat.specs.Answer.{start_table, end_table, two_tables, said_by, any_changed, split_of, heat_split, shown_by, printed}
+use Rattle.heat.specs.Answer.{start_table, end_table, two_tables, number_of, values_of, said_by, any_changed, split_of, heat_split, shown_by, printed}
 use Rattle.heat.specs.Claim.{HeatInBoth, HasLine, Rising, shares_in, heat_at, house_of, HeatClaim}
 use Rattle.heat.proofs.ListedLaws as uses
 use Rattle.heat.proofs.RowLaws.{number_reads_back, signed_reads_back, text_reads_back, row_is_listed, listed_has_row, rows_rise, shares_in_rows}
@@ -66,7 +66,7 @@ unfolding split_of number
 said_18 s e room h = by_18 (any_changed s e) (eqb (total (gain s e)) 0) (ltb room (length (split_text s e))) (length (split_text s e)) (split_text s e) (ap number h)
 
 changed_18 : (s e : Table) (room : ℕ) → any_changed s e ≡ true → (split_of s e room).said ≡ refused 18 []
-unfolding said_by
+unfolding said_by number_of values_of
 changed_18 s e room h = ap (λ (t : Told). t.said) (answer_changed s e room h)
 
 -- ---- 3

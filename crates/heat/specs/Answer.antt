@@ -40,13 +40,23 @@ year_of b = cond (two_tables b) (Some (start_table b, end_table b)) None
 
 -- ---- what is answered
 
--- the numbers and values of the code's answers
+-- the number of a refusal, and the values returned with it
+unfoldable pub number_of : SplitError → ℕ
+number_of (E.Short n) = 3
+number_of E.NoTables = 4
+number_of E.CodeChanged = 18
+number_of E.NothingUsed = 19
+
+unfoldable pub values_of : SplitError → List ℕ
+values_of (E.Short n) = n ∷ []
+values_of E.NoTables = []
+values_of E.CodeChanged = []
+values_of E.NothingUsed = []
+
+-- the code's answers, in these terms
 unfoldable pub said_by : Result ℕ SplitError → Said
 said_by (Ok n) = taken S.Nothing n
-said_by (Err (E.Short n)) = refused 3 (n ∷ [])
-said_by (Err E.NoTables) = refused 4 []
-said_by (Err E.CodeChanged) = refused 18 []
-said_by (Err E.NothingUsed) = refused 19 []
+said_by (Err e) = refused (number_of e) (values_of e)
 
 -- some meter's code changed from heat or to heat
 unfoldable pub any_changed : Table → Table → Bool

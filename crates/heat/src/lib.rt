@@ -6,12 +6,14 @@
 // what is not two tables is refused.
 #![tactic(auto)]
 
-ghost use Rattle.std.specs.Prelude.{◌≡◌, true, [], ◌≤◌, length, replicate};
-ghost use Rattle.octets.specs.Lists.{put_over};
+ghost use Rattle.std.specs.Prelude.{◌≡◌, [], ◌≤◌, length, replicate};
+ghost use Rattle.octets.specs.Lists.{at, put_over};
 ghost use Rattle.heat.specs.Text.{text_max};
-ghost use Rattle.heat.specs.Answer.{said_by, split_of, heat_split, shown_by, printed};
+ghost use Rattle.heat.specs.Answer.{number_of, values_of, said_by, split_of, heat_split, shown_by, printed};
 ghost use Rattle.heat.specs.Plain.{plain_by, plain_table};
 
+use numerals::Line;
+use shares::Shares;
 use table::{TABLE_LEN, Table};
 use uses::Year;
 
@@ -40,6 +42,33 @@ pub enum SplitError {
     NothingUsed,
 }
 
+// The number and the value on the display (02, CR 5, and for the length 01, Numbers on the display when a call is turned down).
+impl SplitError {
+    // The number.
+    #[tactic(auto, unfolding(crate::specs::Answer::number_of))]
+    pub fn number(self) -> u8
+        ensures { result ≡ number_of self }
+    {
+        match self {
+            SplitError::Short(_) => 3,
+            SplitError::NoTables => 4,
+            SplitError::CodeChanged => 18,
+            SplitError::NothingUsed => 19,
+        }
+    }
+
+    // The value returned with it, or 0 where there is none.
+    #[tactic(auto, unfolding(crate::specs::Answer::values_of))]
+    pub fn value(self) -> u64
+        ensures { result ≡ at (values_of self) 0 }
+    {
+        match self {
+            SplitError::Short(needed) => needed as u64,
+            _ => 0,
+        }
+    }
+}
+
 // The output has no room for the table's text.
 #[derive(Clone, Copy, Debug, PartialEq, Eq)]
 pub struct NoRoom;
@@ -50,9 +79,10 @@ fn split_of(year: &Year, out: &mut [u8]) -> Result<usize, SplitError>
     ensures bytes { out.new ≡ put_over (split_of year.now.0 year.now.1 (length out.old)).put out.old }
 {
     let uses = year.uses()?;
-    let Some(shares) = shares::shares(&uses) else {
+    let Some(shares) = Shares::of(&uses) else {
         return Err(SplitError::NothingUsed);
     };
+    // The library has no heap, hence the array.
     let mut text = [0; TEXT_MAX];
     let n = text::put_split(&uses, &shares, &mut text);
     if out.len() < n {
@@ -98,15 +128,14 @@ fn printed_line(s: &[u8]) -> Printed
 
 impl SplitError {
     // The line that says with which number it is refused.
-    fn line(self) -> &'static [u8]
-        ensures { result.now ≡ shown_by (said_by (Err self)) [] }
+    fn line(self) -> Line
+        ensures { result ≡ shown_by (said_by (Err self)) [] }
     {
-        match self {
-            SplitError::Short(_) => b"refused 3\n",
-            SplitError::NoTables => b"refused 4\n",
-            SplitError::CodeChanged => b"refused 18\n",
-            SplitError::NothingUsed => b"refused 19\n",
-        }
+        let mut l = Line::new();
+        l.byte_before(text::NEWLINE);
+        l.digits_before(u64::from(self.number()));
+        l.bytes_before(b"refused ");
+        l
     }
 }
 
@@ -118,7 +147,7 @@ pub fn print(input: &[u8]) -> Printed
     let mut bytes = [0u8; TEXT_MAX];
     match heat_split(input, &mut bytes) {
         Ok(len) => Printed { bytes, len },
-        Err(e) => printed_line(e.line()),
+        Err(e) => printed_line(e.line().as_slice()),
     }
 }
 

@@ -54,6 +54,15 @@ impl Line {
         self.bytes[self.from] = b;
     }
 
+    // Bytes before it.
+    pub(crate) fn bytes_before(&mut self, s: &[u8])
+        requires { length s.now + length self.old ≤ line_max }
+        ensures { self.new ≡ s.now ++ self.old }
+    {
+        self.from -= s.len();
+        octets::copy(s, &mut self.bytes[self.from..]);
+    }
+
     // A number in decimal before it.
     pub(crate) fn digits_before(&mut self, n: u64)
         requires { length (numeral n) + length self.old ≤ line_max }

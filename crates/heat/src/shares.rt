@@ -1,5 +1,5 @@
 // Each meter's share of the house, in millionths: rounded down, and one more for those with the largest remainders.
-ghost use Rattle.std.specs.Prelude.{◌≡◌, cond, ℕ, ◌+◌, ◌*◌, ◌/◌, ◌%◌, ◌^◌, ◌<◌, true, MatchOption};
+ghost use Rattle.std.specs.Prelude.{◌≡◌, cond, ℕ, ◌+◌, ◌*◌, ◌/◌, ◌%◌, ◌^◌, ◌≤◌, ◌<◌, true, MatchOption};
 ghost use Rattle.octets.specs.Lists.{at};
 ghost use Rattle.transaction.specs.Transaction.{meters};
 ghost use Rattle.heat.specs.Uses.{SmallUse, gain_of, listed_in, gains_in};
@@ -96,10 +96,11 @@ impl<'a> Divided<'a> {
         if sum == 0 {
             return None;
         }
+        // The index is the remainders': of what a zip of `iter_mut` writes nothing is known.
         let mut remainders = [0; METERS];
         let mut given = 0;
-        for m in 0..METERS {
-            let part = part_of(uses.each[m], sum);
+        for (m, used) in uses.each.iter().enumerate() {
+            let part = part_of(*used, sum);
             remainders[m] = part.remainder;
             given += part.floor;
         }
@@ -128,14 +129,23 @@ impl<'a> Divided<'a> {
     }
 }
 
-// The shares of the meters: none where nothing was used.
-pub(crate) fn shares(uses: &Uses) -> Option<[u64; METERS]>
-    ensures { MatchOption result (total (gains_in uses.now.each) ≡ 0) (λ s. (total (gains_in uses.now.each) ≡ 0 → ⊥) × ((m : ℕ) → m < meters → at s m ≡ cond (listed_in uses.now.each m) (share (listed_in uses.now.each) (gains_in uses.now.each) m) 0)) }
-{
-    let d = Divided::of(uses)?;
-    let mut shares = [0; METERS];
-    for m in 0..METERS {
-        shares[m] = d.share_of(m);
+// The share of each meter, which is no more than the house: 0 of one without a line.
+#[derive(Clone, Copy)]
+pub(crate) struct Shares {
+    pub(crate) each: [u64; METERS],
+    ghost most: { (m : ℕ) → m < meters → at each m ≤ house },
+}
+
+impl Shares {
+    // None where nothing was used.
+    pub(crate) fn of(uses: &Uses) -> Option<Shares>
+        ensures { MatchOption result (total (gains_in uses.now.each) ≡ 0) (λ s. (total (gains_in uses.now.each) ≡ 0 → ⊥) × ((m : ℕ) → m < meters → at s.each m ≡ cond (listed_in uses.now.each m) (share (listed_in uses.now.each) (gains_in uses.now.each) m) 0)) }
+    {
+        let d = Divided::of(uses)?;
+        let mut each = [0; METERS];
+        for m in 0..METERS {
+            each[m] = d.share_of(m);
+        }
+        Some(Shares { each })
     }
-    Some(shares)
 }

@@ -1,10 +1,9 @@
 // What each meter used, by the table at the start of the year and the one at its end.
-ghost use Rattle.std.specs.Prelude.{◌≡◌, true, false, ◌-ℤ◌, IfOk, MatchResult, Err};
-ghost use Rattle.transaction.specs.Transaction.{meters};
+ghost use Rattle.std.specs.Prelude.{◌≡◌, true, false, ◌-ℤ◌, IfOk, MatchResult};
 ghost use Rattle.table.specs.declared.Table.{Table};
 ghost use Rattle.table.specs.TableText.{is_table, table_from};
 ghost use Rattle.heat.specs.Uses.{use_by, difference, AreUses, AreSmall, SmallUse};
-ghost use Rattle.heat.specs.Answer.{two_tables, year_of, any_changed};
+ghost use Rattle.heat.specs.Answer.{year_of, any_changed};
 
 use super::{SplitError, TABLES_LEN};
 use std::marker::Model;

@@ -63,7 +63,8 @@ pub fn unseen_below(j: Journal, x: Vault, position: u64) -> bool
     unseen
 }
 
-// The listed records at or above a position, with empty places behind.
+// The listed records at or above a position, with empty places behind. The count is the state's own field, in the layout that the C
+// interface has, so it rises with what it counts. Not one function with `points::dropped_to`, which keeps one array of structs.
 pub fn journal_from(j: Journal, position: u64) -> Journal
     ensures { result ≡ journal_of (marks_from position (marks_of j)) j.used j.last }
 {

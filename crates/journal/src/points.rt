@@ -10,7 +10,8 @@ ghost use Rattle.journal.specs.Beyond.{points_if};
 
 use protocol::{POINTS, Point, Points};
 
-// The points with one more, now the newest; where 8 are kept they stay as they are.
+// The points with one more, now the newest; where 8 are kept they stay as they are. Not one function with `listed_more`: the two
+// types are layouts of the C interface, one array here and two arrays there.
 #[tactic(auto, unfolding(crate::specs::Beyond::points_if, protocol::specs::Point::points_more))]
 pub fn points_more(p: Points, q: Point) -> Points
     ensures { result ≡ points_if p q }
@@ -64,7 +65,8 @@ pub fn find_point(p: Points, position: u64) -> Option<Point>
         .copied()
 }
 
-// The points above a position, with empty places behind.
+// The points above a position, with empty places behind. The count is the state's own field, in the layout that the C interface
+// has, so it rises with what it counts. Not one function with `marks::journal_from`, which keeps two arrays of numbers.
 pub fn dropped_to(p: Points, position: u64) -> Points
     ensures { result ≡ dropped_to p position }
 {

@@ -72,25 +72,6 @@ pub number_split : (s t : List ℕ) (k : ℕ) → length t ≡ k → number (s +
 unfolding number
 number_split s t k e = number_append 0 s t ∙ number_from_law (number_from 0 s) t ∙ ap (λ (n : ℕ). number_from 0 s * 256 ^ n + number_from 0 t) e
 
--- two words make a block
-pub number_words : (l : List ℕ) → number (padded 8 l) * 2 ^ 64 + number (padded 8 (drop 8 l)) ≡ number (padded 16 l)
-number_words l = sym (ap number (padded_split 8 8 l) ∙ number_split (padded 8 l) (padded 8 (drop 8 l)) 8 (length_padded 8 (drop 8 l)))
-
-pub eight : (l : List ℕ)
-    → padded 8 l ≡ get_or l 0 0 ∷ get_or l 1 0 ∷ get_or l 2 0 ∷ get_or l 3 0 ∷ get_or l 4 0 ∷ get_or l 5 0 ∷ get_or l 6 0 ∷ get_or l 7 0 ∷ []
-unfolding padded
-eight l = rw (padded_from 7 0 l, padded_from 6 1 l, padded_from 5 2 l, padded_from 4 3 l, padded_from 3 4 l, padded_from 2 5 l, padded_from 1 6 l, padded_from 0 7 l)
-
--- a block, from its two words as they are read
-pub block_read : (s : List ℕ) {h l : ℕ}
-    → h ≡ number (get_or s 0 0 ∷ get_or s 1 0 ∷ get_or s 2 0 ∷ get_or s 3 0 ∷ get_or s 4 0 ∷ get_or s 5 0 ∷ get_or s 6 0 ∷ get_or s 7 0 ∷ [])
-    → l ≡ number (get_or s 8 0 ∷ get_or s 9 0 ∷ get_or s 10 0 ∷ get_or s 11 0 ∷ get_or s 12 0 ∷ get_or s 13 0 ∷ get_or s 14 0 ∷ get_or s 15 0 ∷ [])
-    → h * 2 ^ 64 + l ≡ number (padded 16 s)
-block_read s {h} {l} eh el =
-    ap₂ (λ (x y : ℕ). x * 2 ^ 64 + y) (eh ∙ sym (ap number (eight s)))
-    (el ∙ sym (ap number (eight (drop 8 s) ∙ simp get_or-drop)))
-    ∙ number_words s
-
 -- ---- the bytes of a number
 
 pub length_bytes : (k n : ℕ) → length (bytes_of k n) ≡ k

@@ -2,7 +2,6 @@
 pub mod BoolLaws
 pub mod EveryLaws
 pub mod Table
-pub mod Build
 pub mod XorLaws
 pub mod ByteLaws
 pub mod LittleLaws

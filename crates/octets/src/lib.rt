@@ -4,7 +4,7 @@
 // written past its end is left out; the contracts say so.
 #![tactic(auto)]
 
-ghost use Rattle.std.specs.Prelude.{◌≡◌, [], ◌∷◌};
+ghost use Rattle.std.specs.Prelude.{◌≡◌};
 ghost use Rattle.std.specs.Int.Bits.{bit_xor};
 ghost use Rattle.octets.specs.Lists.{at, over};
 ghost use Rattle.octets.specs.Bytes.{number, bytes_of, padded, same_bytes};
@@ -13,7 +13,7 @@ ghost use Rattle.octets.specs.Blocks.{num};
 pub mod little;
 
 // A block of 128 bits: hi holds the leftmost 64.
-#[derive(Clone, Copy, PartialEq, Eq)]
+#[derive(Clone, Copy)]
 pub struct Block {
     pub hi: u64,
     pub lo: u64,
@@ -24,8 +24,8 @@ impl From<u128> for Block {
 
     fn from(n: u128) -> Block {
         Block {
-            hi: (n / 0x1_0000_0000_0000_0000) as u64,
-            lo: (n % 0x1_0000_0000_0000_0000) as u64,
+            hi: (n >> 64) as u64,
+            lo: (n & 0xffff_ffff_ffff_ffff) as u64,
         }
     }
 }
@@ -34,7 +34,7 @@ impl From<Block> for u128 {
     ghost from_gives = { λ b n. n ≡ num b };
 
     fn from(b: Block) -> u128 {
-        (b.hi as u128) * 0x1_0000_0000_0000_0000 + b.lo as u128
+        (b.hi as u128) << 64 | b.lo as u128
     }
 }
 
@@ -53,13 +53,6 @@ pub fn byte_at(s: &[u8], i: usize) -> u8
     ensures { result ≡ at s.now i }
 {
     s.get(i).copied().unwrap_or(0)
-}
-
-// The number of eight bytes, the most significant first.
-pub fn word_of(a: u8, b: u8, c: u8, d: u8, e: u8, f: u8, g: u8, h: u8) -> u64
-    ensures { result ≡ number (a ∷ b ∷ c ∷ d ∷ e ∷ f ∷ g ∷ h ∷ []) }
-{
-    u64::from_be_bytes([a, b, c, d, e, f, g, h])
 }
 
 // Copies src over the start of dst, as much of it as dst has room for.

@@ -8,6 +8,7 @@ ghost use Rattle.octets.specs.Little.{little, little_bytes};
 use super::first;
 
 // The number that the first two bytes of s write.
+// It is one line over the library's method: proofs above cite its clauses, in the words of the layouts (`little_bytes`).
 pub fn u16_in(s: &[u8]) -> u16
     ensures number { result ≡ little (padded 2 s.now) }
     ensures bytes { little_bytes 2 result ≡ padded 2 s.now }
@@ -16,6 +17,7 @@ pub fn u16_in(s: &[u8]) -> u16
 }
 
 // The number that the first four bytes of s write.
+// It is one line over the library's method: proofs above cite its clauses, in the words of the layouts (`little_bytes`).
 pub fn u32_in(s: &[u8]) -> u32
     ensures number { result ≡ little (padded 4 s.now) }
     ensures bytes { little_bytes 4 result ≡ padded 4 s.now }
@@ -24,6 +26,7 @@ pub fn u32_in(s: &[u8]) -> u32
 }
 
 // The number that the first eight bytes of s write.
+// It is one line over the library's method: proofs above cite its clauses, in the words of the layouts (`little_bytes`).
 pub fn u64_in(s: &[u8]) -> u64
     ensures number { result ≡ little (padded 8 s.now) }
     ensures bytes { little_bytes 8 result ≡ padded 8 s.now }
@@ -32,6 +35,7 @@ pub fn u64_in(s: &[u8]) -> u64
 }
 
 // The two bytes of a number.
+// It is one line over the library's method: proofs above cite its clause, in the words of the layouts (`little_bytes`).
 pub fn bytes2(x: u16) -> [u8; 2]
     ensures { result ≡ little_bytes 2 x }
 {
@@ -39,6 +43,7 @@ pub fn bytes2(x: u16) -> [u8; 2]
 }
 
 // The four bytes of a number.
+// It is one line over the library's method: proofs above cite its clause, in the words of the layouts (`little_bytes`).
 pub fn bytes4(x: u32) -> [u8; 4]
     ensures { result ≡ little_bytes 4 x }
 {
@@ -46,6 +51,7 @@ pub fn bytes4(x: u32) -> [u8; 4]
 }
 
 // The eight bytes of a number.
+// It is one line over the library's method: proofs above cite its clause, in the words of the layouts (`little_bytes`).
 pub fn bytes8(x: u64) -> [u8; 8]
     ensures { result ≡ little_bytes 8 x }
 {

@@ -38,7 +38,7 @@ use table::Entry;
 pub extern "C" fn paviluko_load(x: Vault, key: &[u8]) -> Reply
     ensures { result ≡ reply_of (load x key.now) }
 {
-    boundary::reply_of(loading::load(x, key))
+    Reply::from(loading::load(x, key))
 }
 
 // Accept: a transaction is held under the next number of its lane. Names the store of W. Refuses with 1 and 4 to 8.
@@ -55,7 +55,7 @@ pub extern "C" fn paviluko_accept(
     if !boundary::known(s.due, s.phase) {
         return boundary::not_a_state(s);
     }
-    boundary::reply_of(accepting::accept(State::from(s), transaction, lane, position))
+    Reply::from(accepting::accept(State::from(s), transaction, lane, position))
 }
 
 // Seal: the record of the transaction held, at the start of out. Names the record's store. Refuses with 1 and 3.
@@ -68,7 +68,7 @@ pub extern "C" fn paviluko_seal(s: FlatState, out: &mut [u8]) -> Reply
     if !boundary::known(s.due, s.phase) {
         return boundary::not_a_state(s);
     }
-    boundary::reply_of(accepting::seal(State::from(s), out))
+    Reply::from(accepting::seal(State::from(s), out))
 }
 
 // Commit: the bytes of a record, from the card, make its transaction visible. Names the store of V. Refuses with 1, 9, 10
@@ -81,7 +81,7 @@ pub extern "C" fn paviluko_commit(s: FlatState, bytes: &[u8]) -> Reply
     if !boundary::known(s.due, s.phase) {
         return boundary::not_a_state(s);
     }
-    boundary::reply_of(committing::commit(State::from(s), bytes))
+    Reply::from(committing::commit(State::from(s), bytes))
 }
 
 // Point: a position below which every accepted record is visible. Names no store. Refuses with 1, 6, 7 and 15.
@@ -93,7 +93,7 @@ pub extern "C" fn paviluko_point(s: FlatState, position: u64) -> Reply
     if !boundary::known(s.due, s.phase) {
         return boundary::not_a_state(s);
     }
-    boundary::reply_of(pointing::point(State::from(s), position))
+    Reply::from(pointing::point(State::from(s), position))
 }
 
 // Checkpoint, in three calls: the store of N, the file at the start of out, the store of S. Refuses with 1, 3 and 8.
@@ -106,7 +106,7 @@ pub extern "C" fn paviluko_checkpoint(s: FlatState, out: &mut [u8]) -> Reply
     if !boundary::known(s.due, s.phase) {
         return boundary::not_a_state(s);
     }
-    boundary::reply_of(checkpointing::checkpoint(State::from(s), out))
+    Reply::from(checkpointing::checkpoint(State::from(s), out))
 }
 
 // Truncate at a covered point, in nine calls: the stores of R of lanes 0 to 7, and the deletion. Refuses with 1 and 14.
@@ -118,7 +118,7 @@ pub extern "C" fn paviluko_truncate(s: FlatState, position: u64) -> Reply
     if !boundary::known(s.due, s.phase) {
         return boundary::not_a_state(s);
     }
-    boundary::reply_of(truncating::truncate(State::from(s), position))
+    Reply::from(truncating::truncate(State::from(s), position))
 }
 
 // Recover, in 15 or 24 calls: the first reads checkpoint and log, and names the first store; the others name the other
@@ -137,7 +137,7 @@ pub extern "C" fn paviluko_recover(
     if !boundary::known(s.due, s.phase) {
         return boundary::not_a_state(s);
     }
-    boundary::reply_of(recovering::recover(State::from(s), checkpoint, log, out))
+    Reply::from(recovering::recover(State::from(s), checkpoint, log, out))
 }
 
 // ---- from the wired bus
@@ -149,7 +149,7 @@ pub extern "C" fn paviluko_from_bus(frame: &[u8], meter: u16, stamp: u64, out: &
     ensures answer { result ≡ said_of (from_bus frame.now meter stamp (length out.old)).said }
     ensures bytes { out.new ≡ put_over (from_bus frame.now meter stamp (length out.old)).put out.old }
 {
-    boundary::said_of_bus(bus::from_bus(frame, meter, stamp, out))
+    Said::from(bus::from_bus(frame, meter, stamp, out))
 }
 
 // ---- the yearly heat split
@@ -161,7 +161,7 @@ pub extern "C" fn paviluko_heat_split(tables: &[u8], out: &mut [u8]) -> Said
     ensures answer { result ≡ said_of (heat_split tables.now (length out.old)).said }
     ensures bytes { out.new ≡ put_over (heat_split tables.now (length out.old)).put out.old }
 {
-    boundary::said_of_split(heat::heat_split(tables, out))
+    Said::from(heat::heat_split(tables, out))
 }
 
 // The plain table of a state, at the start of out. Names no store. Refuses with 3.
@@ -170,7 +170,7 @@ pub extern "C" fn paviluko_plain_table(s: FlatState, out: &mut [u8]) -> Said
     ensures answer { result ≡ said_of (plain_table s.table (length out.old)).said }
     ensures bytes { out.new ≡ put_over (plain_table s.table (length out.old)).put out.old }
 {
-    boundary::said_of_plain(heat::plain_table(s.table, out))
+    Said::from(heat::plain_table(s.table, out))
 }
 
 // ---- for a host and a screen

@@ -47,7 +47,8 @@ fn all_visible(x: Vault) -> bool
     (0..LANES).all(|lane| vault::lane_at(x.w, lane) == vault::lane_at(x.v, lane))
 }
 
-// Behind R of a lane: R of the next, and behind the last E, or the emptying where every number is visible.
+// Behind R of a lane: R of the next, and behind the last E, or the emptying where every number is visible. Not one function with
+// `after_v`: what is due behind the last lane differs.
 #[tactic(auto, unfolding(protocol::specs::Recover::after_r))]
 fn after_r(x: Vault, lane: u8) -> Due
     ensures { result ≡ after_r x lane }

@@ -11,7 +11,7 @@ use gcm::KeyRef;
 use octets::little;
 use table::{TABLE_LEN, Table};
 
-// The kind of a checkpoint file, and its length.
+// The kind of a checkpoint file, a byte of the card's layout (01, Layouts), and the file's length.
 pub const FILE_KIND: u8 = 2;
 
 pub const FILE_LEN: usize = TABLE_LEN + FRAME_LEN;

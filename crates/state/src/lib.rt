@@ -10,6 +10,8 @@ ghost use Rattle.protocol.specs.Accept.{is_record};
 
 use protocol::{Answer, Due, LISTED, POINTS, Phase, Refusal, State, Store, Taken};
 
+// Each of the next three is the definition of its name, which the operations' contracts use.
+
 // Whether a collector of this phase is in service.
 pub fn serving(phase: Phase) -> bool
     ensures { result ≡ serving phase }

@@ -18,7 +18,7 @@ use sealed::record::{RecordError, RecordRead};
 use sealed::{file, record};
 use transaction::MAX_TEXT;
 
-// What a record's head says: code 0 where the record opens, and else 9 with zeros.
+// What a record's head says: code 0 where the record opens, and else 9 with zeros. A number, and not an Option, since C reads it.
 #[repr(C)]
 #[derive(Clone, Copy)]
 pub struct RecordReply {
@@ -29,7 +29,7 @@ pub struct RecordReply {
     pub len: u64,
 }
 
-// What a file's head says: code 0 where the file opens, and else 9 with zeros.
+// What a file's head says: code 0 where the file opens, and else 9 with zeros, as there.
 #[repr(C)]
 #[derive(Clone, Copy)]
 pub struct FileReply {
@@ -49,7 +49,7 @@ fn lent<'a>(w: &'a [u32; 44], m: &'a [u64; 1024]) -> KeyRef<'a>
     }
 }
 
-// The numbers of the answers.
+// The numbers of the answers. Numbers, and not the enums, since C reads them.
 fn record_code(answer: Result<usize, RecordError>) -> u64
     ensures { result ≡ record_code answer }
 {
@@ -95,7 +95,7 @@ fn hand_record(read: Option<RecordRead>, text: &mut [u8]) -> RecordReply
     }
 }
 
-// Prepares a key: 0, or 1 where it is not 16 bytes long.
+// Prepares a key: 0, or 1 where it is not 16 bytes long. `test_cipher` exports the same under its own name.
 #[unsafe(no_mangle)]
 pub extern "C" fn sealed_prepare(key: &[u8], w: &mut [u32; 44], m: &mut [u64; 1024]) -> u64
     ensures answer { result ≡ cond (eqb (length key.now) 16) 0 1 }

@@ -11,7 +11,8 @@ use protocol::{Answer, Due, Outcome, Point, Refusal, State, Store, Taken, Trunca
 use steps::LaneCounter;
 use table::LANES;
 
-// The store that is due behind R of a lane: R of the next lane, or the deletion.
+// The store that is due behind R of a lane: R of the next lane, or the deletion. Recover's steps by lane go to other stores behind the
+// last lane.
 #[tactic(auto, unfolding(protocol::specs::Truncate::after_truncate_r))]
 fn after_r(lane: u8, position: u64) -> Due
     ensures { result ≡ after_truncate_r lane position }

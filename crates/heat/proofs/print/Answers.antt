@@ -15,11 +15,11 @@ returns-in-Ok c =
     record { bytes = all.0; len = all.1 }
 
 pub printed_line-requires : goal.printed_line-requires
-printed_line-requires c = rw c.line.ensures (line_fits c.in-Err.e)
+printed_line-requires c = rw (c.as_slice.ensures, c.line.ensures) (line_fits c.in-Err.e)
 
 pub returns-in-Err : goal.returns-in-Err
 returns-in-Err c =
     let i = c.args.input.now in
-    let said = printed_refused i c.in-Err.e c.in-Err.ensures.answer ∙ sym c.line.ensures in
+    let said = printed_refused i c.in-Err.e c.in-Err.ensures.answer ∙ sym c.line.ensures ∙ sym c.as_slice.ensures in
     let all = as_printed i (replicate text_max 0) said c.printed_line.ensures.bytes c.printed_line.ensures.len in
     record { bytes = all.0; len = all.1 }

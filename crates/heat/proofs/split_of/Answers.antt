@@ -1,5 +1,5 @@
 -- `heat::split_of` meets its contract: its tests are the definition's, and the text is copied where there is room for it. Assumes nothing.
-use Rattle.heat.proofs.SplitLaws.{total_found, shares_found, shares_fit, text_there, answer_changed, answer_nothing, answer_short, answer_written}
+use Rattle.heat.proofs.SplitLaws.{total_found, shares_found, text_there, answer_changed, answer_nothing, answer_short, answer_written}
 use Rattle.heat.proofs.TextLaws.{text_is}
 use Rattle.heat.specs.Text.{split_text}
 use Rattle.protocol.proofs.SaidLaws.{told_so}
@@ -26,16 +26,13 @@ returns-in_default c =
     let all = told_so a.out.now (answer_nothing y.0 y.1 (length a.out.now) e.0 (sym (total_found y.0 y.1 c.in_ok-uses.uses.each e.1) ∙ c.in_default.ensures)) in
     record { answer = all.0; bytes = all.1 }
 
-pub put_split-n-requires : goal.put_split-n-requires
-put_split-n-requires c = let y = c.args.year.now in shares_fit y.0 y.1 c.in_ok-uses.uses.each c.in_ok-uses.ensures.1 c.in-Some.shares c.in-Some.ensures.1
-
 pub returns-then-out-n : goal.returns-then-out-n
 returns-then-out-n c =
     let a = c.args in
     let y = a.year.now in
     let e = c.in_ok-uses.ensures in
     let s = c.in-Some.ensures in
-    let is = text_is y.0 y.1 c.in_ok-uses.uses.each c.in-Some.shares e.1 (shares_found y.0 y.1 c.in_ok-uses.uses.each e.1 c.in-Some.shares s.1) in
+    let is = text_is y.0 y.1 c.in_ok-uses.uses.each c.in-Some.shares.each e.1 (shares_found y.0 y.1 c.in_ok-uses.uses.each e.1 c.in-Some.shares.each s.1) in
     let all = told_so a.out.now (answer_short y.0 y.1 (length a.out.now) e.0 (λ z. s.0 (total_found y.0 y.1 c.in_ok-uses.uses.each e.1 ∙ z)) (c.put_split-n.ensures.len.0 ∙ ap length is) c.if-out-n.true) in
     record { answer = all.0; bytes = all.1 }
 
@@ -46,7 +43,7 @@ returns c =
     let e = c.in_ok-uses.ensures in
     let s = c.in-Some.ensures in
     let put = c.put_split-n.ensures in
-    let is = text_is y.0 y.1 c.in_ok-uses.uses.each c.in-Some.shares e.1 (shares_found y.0 y.1 c.in_ok-uses.uses.each e.1 c.in-Some.shares s.1) in
+    let is = text_is y.0 y.1 c.in_ok-uses.uses.each c.in-Some.shares.each e.1 (shares_found y.0 y.1 c.in_ok-uses.uses.each e.1 c.in-Some.shares.each s.1) in
     let n = put.len.0 ∙ ap length is in
     let most = put.len.1 in
     let room = c.if-out-n.false in

@@ -1,20 +1,19 @@
 -- `heat::SplitError::line` meets its contract: each refusal's line has its number. Assumes nothing.
-use Rattle.heat.specs.Numerals.{numeral_within, numeral}
+use Rattle.heat.proofs.NumeralLaws.{length_numeral}
 use Rattle.heat.specs.Answer.{said_by, refused_line, shown_by}
+use Rattle.std.proofs.Common.{arith, length-append}
 use Rattle.heat.proofs.SplitError.line.Goals as goal
 
-pub returns-in-Short : goal.returns-in-Short
-unfolding shown_by said_by refused_line numeral numeral_within
-returns-in-Short c = rw c.in-Short.is
+pub digits_before-requires : goal.digits_before-requires
+digits_before-requires c =
+    let n = length_numeral 3 c.from.result (omega arith) in
+    rw (c.byte_before.ensures, c.new-l.ensures) (omega arith)
 
-pub returns-in-NoTables : goal.returns-in-NoTables
-unfolding shown_by said_by refused_line numeral numeral_within
-returns-in-NoTables c = rw c.in-NoTables.is
+pub bytes_before-requires : goal.bytes_before-requires
+bytes_before-requires c =
+    let n = length_numeral 3 c.from.result (omega arith) in
+    rw (c.digits_before.ensures, c.byte_before.ensures, c.new-l.ensures) (simp length-append (omega arith))
 
-pub returns-in-CodeChanged : goal.returns-in-CodeChanged
-unfolding shown_by said_by refused_line numeral numeral_within
-returns-in-CodeChanged c = rw c.in-CodeChanged.is
-
-pub returns-in-NothingUsed : goal.returns-in-NothingUsed
-unfolding shown_by said_by refused_line numeral numeral_within
-returns-in-NothingUsed c = rw c.in-NothingUsed.is
+pub returns : goal.returns
+unfolding shown_by said_by refused_line
+returns c = rw (c.bytes_before.ensures, c.digits_before.ensures, c.byte_before.ensures, c.new-l.ensures, c.from.ensures, c.number.ensures)

@@ -14,11 +14,11 @@ loop-m-preserved c =
     let a = c.args in
     let inv = l.invariant in
     let put = c.put_line-at.ensures in
-    let room = c.requires.0 in
+    let room = c.requires in
     let most = inv.small in
     let more = put.len.1 in
     record {
-      len = long_more a.uses.now.each a.shares.now l.m inv.len put.len.0;
+      len = long_more a.uses.now.each a.shares.now.each l.m inv.len put.len.0;
       small = omega arith;
-      bytes = put_more a.uses.now.each a.shares.now l.m a.out.now inv.len (omega arith) inv.bytes put.bytes;
+      bytes = put_more a.uses.now.each a.shares.now.each l.m a.out.now inv.len (omega arith) inv.bytes put.bytes;
     }

@@ -7,7 +7,7 @@ use Rattle.heat.proofs.text.put_lines.Given as goal
 
 abbrev pub invariant-loop-m : goal.invariant-loop-m
 invariant-loop-m l = record {
-  len : l.at ≡ length (lines_in l.uses.each l.shares l.m);
+  len : l.at ≡ length (lines_in l.uses.each l.shares.each l.m);
   small : l.at ≤ line_max * l.m;
-  bytes : l.out ≡ over (lines_in l.uses.each l.shares l.m) l.initial.out;
+  bytes : l.out ≡ over (lines_in l.uses.each l.shares.each l.m) l.initial.out;
 }

@@ -7,7 +7,7 @@ pub returns : goal.returns
 returns c =
     let a = c.args in
     let put = c.put_lines.ensures in
-    let long = length_text a.uses.now.each a.shares.now in
+    let long = length_text a.uses.now.each a.shares.now.each in
     let n = put.len.0 in
     let most = put.len.1 in
-    record { len = (omega arith, omega arith); bytes = put_all a.uses.now.each a.shares.now a.out.now 6144 (omega arith) c.copy.ensures put.bytes }
+    record { len = (omega arith, omega arith); bytes = put_all a.uses.now.each a.shares.now.each a.out.now 6144 (omega arith) c.copy.ensures put.bytes }
