@@ -94,9 +94,9 @@
  *
  * MEMORY AND THREADS. There is no heap, no global and no hidden state: the functions are re-entrant, and no pointer
  * outlives its call. State and reply are some 8 KB each and are passed by value, so a call needs stack. Measured
- * (bench/stack.c), state and reply among it: load 50 KB, point 63, truncate 65, accept 67, seal 80, checkpoint 82, commit
- * 89, recover 122, the questions at the end 15; plain_table, which has no reply, 15; from_bus and heat_split, which have
- * neither, less than 1 and 25. PAVILUKO_STACK leaves room beyond the deepest of them. The paviluko_do_ functions at the end
+ * (bench/stack.c), state and reply among it: load 50 KB, point 63, truncate 65, accept 67, seal 72, checkpoint 73, commit
+ * 89, recover 114, the questions at the end 15; plain_table, which has no reply, 15; from_bus and heat_split, which have
+ * neither, less than 1 and 19. PAVILUKO_STACK leaves room beyond the deepest of them. The paviluko_do_ functions at the end
  * of this file take a pointer to the state instead, and write the next state back.
  *
  * THE KEY. A state holds the key; paviluko_clear wipes one that is no longer needed. The stack that a call used may hold

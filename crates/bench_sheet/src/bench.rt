@@ -7,49 +7,49 @@ use super::write::{self, Answer, Coded, Reading};
 use collector::{Collector, Handed};
 use protocol::{State, Store, Vault};
 use sealed::record::RECORD_KIND;
-use std::alloc::{AllocError, Global};
 use std::io;
 use transaction::MIN_TEXT;
 
 // What stands in the room that is lent to a call, before it.
 const BEFORE: u8 = 165;
 
+// That room, and the one of a checkpoint file: a byte more than a file has.
+pub const ROOM: usize = 6185;
+
 // Vault numbers, a collector, one that was put aside, what calls are handed, and the room that the last of them was lent.
 #[derive(Drop)]
-pub struct Bench {
-    alloc: Global,
+pub struct Bench<'a> {
     numbers: Vault,
     collector: Collector,
     kept: Collector,
-    text: Buffer,
-    file: Buffer,
-    log: Buffer,
-    out: Vec<u8>,
+    text: Buffer<'a>,
+    file: Buffer<'a>,
+    log: Buffer<'a>,
+    out: [u8; ROOM],
 }
 
 // A call that is lent room for so many bytes, each 165 before.
-fn lent<T, F: FnOnce(&mut [u8]) -> T>(out: &mut Vec<u8>, room: usize, call: F) -> T
+fn lent<T, F: FnOnce(&mut [u8]) -> T>(out: &mut [u8], room: usize, call: F) -> T
     requires { F.IsAlwaysCallable call }
 {
-    out.as_mut_slice().fill(BEFORE);
+    out.fill(BEFORE);
     let n = room.min(out.len());
     call(&mut out[..n])
 }
 
-impl Bench {
-    pub fn new(alloc: Global) -> Result<Bench, AllocError> {
+impl<'a> Bench<'a> {
+    pub fn new(text: &'a mut [u8], file: &'a mut [u8], log: &'a mut [u8]) -> Bench<'a> {
         let numbers = vault::new_vault();
         let collector = made::cold(numbers);
-        Ok(Bench {
-            alloc,
+        Bench {
             numbers,
             collector,
             kept: collector,
-            text: Buffer::new(alloc, 512)?,
-            file: Buffer::new(alloc, 6185)?,
-            log: Buffer::new(alloc, 262145)?,
-            out: vec![in alloc; 0u8; 6185]?,
-        })
+            text: Buffer::new(text),
+            file: Buffer::new(file),
+            log: Buffer::new(log),
+            out: [0u8; ROOM],
+        }
     }
 
     // A command carried out.
@@ -85,24 +85,24 @@ impl Bench {
             Word::TextByte => self.text.set(size, (m.b % 256) as u8),
             Word::TextLength => self.text.len = size,
             Word::File => {
-                self.file.put(0, self.out.as_slice());
+                self.file.put(0, &self.out);
                 self.file.len = size;
             }
             Word::FileTurn => self.file.turn(size),
             Word::FileLength => self.file.len = size,
             Word::Log => self.log.clear(size),
-            Word::LogAdd => self.log.add(first(self.out.as_slice(), size), size),
+            Word::LogAdd => self.log.add(first(&self.out, size), size),
             Word::Record => self.record(m.a, m.b),
             Word::LogTurn => self.log.turn(size),
             Word::LogLength => self.log.len = size,
             // The frame, in the log's place. It grows by what the command says, also where that is more than is put in.
-            Word::Frame => self.log.hold(m.bytes(self.alloc)?.as_slice(), count),
-            Word::Reply => self.log.reply(m.bytes(self.alloc)?.as_slice(), count),
-            Word::More => self.log.more(m.bytes(self.alloc)?.as_slice(), count),
+            Word::Frame => self.log.hold(m.bytes().as_slice(), count),
+            Word::Reply => self.log.reply(m.bytes().as_slice(), count),
+            Word::More => self.log.more(m.bytes().as_slice(), count),
             Word::Filler => self.log.filler(size),
-            Word::Set => self.log.change(m.bytes(self.alloc)?.as_slice()),
+            Word::Set => self.log.change(m.bytes().as_slice()),
             Word::Sum => self.log.add_up(),
-            Word::Add => self.log.add(m.bytes(self.alloc)?.as_slice(), count),
+            Word::Add => self.log.add(m.bytes().as_slice(), count),
             Word::Cut => self.log.cut(size),
             // The calls.
             Word::Load => {
@@ -213,7 +213,7 @@ impl Bench {
         if name.is_empty() {
             return Ok(());
         }
-        let out = self.out.as_slice();
+        let out = &self.out;
         let put = if heard.is_ok() { MIN_TEXT } else { 0 };
         let kept = out.iter().skip(put).all(|b| *b == BEFORE);
         write::line(rt, name, Reading { heard, out, kept })

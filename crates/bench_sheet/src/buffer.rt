@@ -1,10 +1,8 @@
 // What a call is handed: a transaction, a checkpoint file, a log, or a frame in the log's place. Each stands at the start of a
 // room that never changes its size, and the script says how long it is: what stood behind it is there when it is longer again.
-use std::alloc::{AllocError, Global};
-
 #[derive(Drop)]
-pub struct Buffer {
-    room: Vec<u8>,
+pub struct Buffer<'a> {
+    room: &'a mut [u8],
     pub len: usize,
 }
 
@@ -16,21 +14,19 @@ pub fn first(s: &[u8], n: usize) -> &[u8] {
     s.get(..n).unwrap_or(s)
 }
 
-impl Buffer {
-    pub fn new(alloc: Global, room: usize) -> Result<Buffer, AllocError> {
-        let room = vec![in alloc; 0u8; room]?;
-        Ok(Buffer { room, len: 0 })
+impl<'a> Buffer<'a> {
+    pub fn new(room: &'a mut [u8]) -> Buffer<'a> {
+        Buffer { room, len: 0 }
     }
 
     // What a call is handed.
     pub fn given(&self) -> &[u8] {
-        first(self.room.as_slice(), self.len)
+        first(self.room, self.len)
     }
 
     // A part of the room, or all of it where there is no such part.
     pub fn part(&self, from: usize, to: usize) -> &[u8] {
-        let room = self.room.as_slice();
-        room.get(from..to).unwrap_or(room)
+        self.room.get(from..to).unwrap_or(self.room)
     }
 
     // It is so many bytes longer.
@@ -79,6 +75,8 @@ impl Buffer {
 
     // The room behind its end.
     pub fn behind(&mut self) -> Option<&mut [u8]> {
-        self.room.as_mut_slice().get_mut(self.len..)
+        let from = self.len;
+        let room = &mut *self.room;
+        room.get_mut(from..)
     }
 }

@@ -10,7 +10,7 @@ const MEDIUM_PLACE: usize = 14;
 // The most filler that a command puts in.
 const MOST_FILLER: usize = 512;
 
-impl Buffer {
+impl Buffer<'_> {
     // A place so many bytes before its end. Where it is shorter than that, there is none: the number is past every place.
     fn from_end(&self, n: usize) -> usize {
         self.len.wrapping_sub(n)

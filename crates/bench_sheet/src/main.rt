@@ -12,7 +12,7 @@ mod script;
 mod words;
 mod write;
 
-use bench::Bench;
+use bench::{Bench, ROOM};
 use script::Command;
 use std::io::{self, Read};
 
@@ -22,12 +22,19 @@ const SCRIPT: usize = 65536;
 // How many commands a script may have.
 const COMMANDS: usize = 4096;
 
+// The room of a transaction and of a log.
+const TEXT: usize = 512;
+
+const LOG: usize = 262145;
+
 fn main(rt: HostRuntime) -> io::Result<()> {
-    let mut script = Vec::new(rt.alloc());
-    rt.reader().take(SCRIPT as u64).read_to_end(&mut script)?;
-    script.resize(SCRIPT, 0)?;
-    let mut bench = Bench::new(rt.alloc())?;
-    let mut rest = script.as_slice();
+    let mut script = [0u8; SCRIPT];
+    io::copy(&mut rt.reader().take(SCRIPT as u64), &mut &mut script[..])?;
+    let mut text = [0u8; TEXT];
+    let mut file = [0u8; ROOM];
+    let mut log = [0u8; LOG];
+    let mut bench = Bench::new(&mut text, &mut file, &mut log);
+    let mut rest: &[u8] = &script;
     for _ in 0..COMMANDS {
         let (command, behind) = Command::first(rest);
         match command {

@@ -7,7 +7,7 @@
 // What begins with # is passed over, to the end of its line. A number that is not there is 0. A script is bytes, of which each
 // part of a command takes those of its kind: what is of no kind is not refused, it ends a part.
 use super::words::Word;
-use std::alloc::{AllocError, Global};
+use arrayvec::ArrayVec;
 
 // How many of a command's bytes are read.
 const MOST_BYTES: usize = 256;
@@ -122,14 +122,13 @@ impl<'a> Command<'a> {
     }
 
     // Those bytes, as many of them as are read.
-    pub fn bytes(self, alloc: Global) -> Result<Vec<u8>, AllocError> {
-        self.given
-            .chunks(3)
-            .filter_map(|digits| match digits {
-                [high, low, ..] => Some(half(*high) << 4 | half(*low)),
-                _ => None,
-            })
-            .take(MOST_BYTES)
-            .collect(alloc)
+    pub fn bytes(self) -> ArrayVec<u8, MOST_BYTES> {
+        let mut bytes = ArrayVec::new();
+        for digits in self.given.chunks(3) {
+            if let [high, low, ..] = digits {
+                let _ = bytes.try_push(half(*high) << 4 | half(*low));
+            }
+        }
+        bytes
     }
 }

@@ -6,11 +6,13 @@ use mathlib.Core.List.{List, ◌++◌, append_assoc}
 use mathlib.Core.Option.{Option, some, none}
 use Prim.Native.Nat.{ℕ, ◌+◌, ◌-◌, ◌<◌, ◌≤◌}
 use native.Mathlib.Omega.{arith}
-use borrow.Author.Tests.{le-ltb, lt-ltb}
+use borrow.Author.Tests.{le-ltb, lt-ltb, ltb-false}
+use lib.Dec.{ltb}
 use lib.ListN.{length, take, drop, length-append, length-drop}
 use lib.Seq.{take_at, drop_at, drop-drop, length-take-le}
 use Rattle.octets.specs.Lists.{over, put_over}
 use Rattle.octets.specs.Bytes.{same_bytes}
+use Rattle.octets.proofs.BoolLaws.{or_left, or_right}
 use Rattle.octets.proofs.CopyLaws.{over_room}
 use Rattle.aes.specs.Counter.{inc32, gctr}
 use Rattle.aes.proofs.CounterLaws.{gctr_length}
@@ -21,6 +23,13 @@ use Rattle.gcm.specs.declared.OpenError.{OpenError}
 use Rattle.gcm.specs.declared.OpenError.TheVariants as O
 use Rattle.std.specs.Prelude.{Result, Ok, Err}
 use Rattle.gcm.proofs.SealLaws.{length_cipher_text, length_tag}
+
+-- what is not beyond the standard is within it
+pub within_text : (n d : ℕ) → beyond n d ≡ false → n ≤ max_plain
+within_text n d e = ltb-false max_plain n (or_left (ltb max_plain n) (ltb max_data d) e)
+
+pub within_data : (n d : ℕ) → beyond n d ≡ false → d ≤ max_data
+within_data n d e = ltb-false max_data d (or_right (ltb max_plain n) (ltb max_data d) e)
 
 module _ (ciph : List ℕ → List ℕ) (whole : (b : List ℕ) → 16 ≤ length (ciph b)) (iv : List ℕ) where
   -- a ciphertext copied into the buffer out, and counter mode over it

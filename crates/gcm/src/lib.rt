@@ -87,7 +87,7 @@ pub fn prepare_in(key: [u8; 16], m: &mut [u64]) -> [u32; 44]
     w
 }
 
-// Prepares a key, in the place where it is handed back: its 8 KB are not copied.
+// Prepares a key as one struct, whose 8 KB may be copied as it is handed back; prepare_in puts them where the caller has them.
 pub fn prepare(key: [u8; 16]) -> Key
     ensures { result ≡ prepared key }
 {
@@ -173,7 +173,7 @@ impl<'a> Message<'a> {
         ensures { out.new ≡ put_over (cipher_text (cipher self.entry.key.schedule.now) self.entry.iv (take self.entry.n s.now)) out.old }
     {
         let n = self.n;
-        out[..n].copy_from_slice(&s[..n]);
+        octets::copy(&s[..n], out);
         aes::counter(
             self.key.schedule,
             aes::next(pre_counter(self.iv)),

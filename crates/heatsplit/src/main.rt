@@ -6,17 +6,18 @@
 // that whoever writes it can write all of it.
 #![tactic(auto)]
 
+use arrayvec::ArrayVec;
 use heat::TABLES_LEN;
 use std::io;
 use std::io::Read;
 
-const KEPT: u64 = TABLES_LEN as u64 + 1;
+const KEPT: usize = TABLES_LEN + 1;
 
 fn main(rt: HostRuntime) -> io::Result<()> {
     let mut from = rt.reader();
-    let mut input = Vec::new(rt.alloc());
-    from.by_ref().take(KEPT).read_to_end(&mut input)?;
+    let mut input = ArrayVec::<u8, KEPT>::new();
+    io::copy(&mut from.by_ref().take(KEPT as u64), &mut input)?;
     io::copy(&mut from, &mut io::sink())?;
-    let p = heat::print(&input);
+    let p = heat::print(input.as_slice());
     rt.write_all(&p.bytes[..p.len])
 }

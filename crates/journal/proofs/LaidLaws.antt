@@ -52,12 +52,12 @@ module _ (p : ℕ) (j : Journal) {i : ℕ} {positions lanes : List ℕ} {count :
   next : marks_from p (take (i + 1) (marks_of j)) ≡ marks_from p (take i (marks_of j)) ++ marks_from p (mark_at j i ∷ [])
   next = ap (λ (k : ℕ). marks_from p (take k (marks_of j))) (add-one i) ∙ ap (marks_from p) (before_more j i h) ∙ from_append p (take i (marks_of j)) (mark_at j i ∷ [])
 
-  pub laid_in : count < listed → p ≤ at j.positions i
-      → Laid (marks_from p (take (i + 1) (marks_of j))) (set positions count (at j.positions i)) (set lanes count (at j.lanes i)) (count + 1)
+  pub laid_in : {place : ℕ} → place ≡ count → count < listed → p ≤ at j.positions i
+      → Laid (marks_from p (take (i + 1) (marks_of j))) (set positions place (at j.positions i)) (set lanes count (at j.lanes i)) (count + 1)
   unfolding marks_from
-  laid_in r q =
+  laid_in {place} k r q =
       let e = next ∙ ap (λ (ms : List Mark). marks_from p (take i (marks_of j)) ++ ms) (from_in p (mark_at j i) [] q) in
-      subst (λ (ms : List Mark). Laid ms (set positions count (at j.positions i)) (set lanes count (at j.lanes i)) (count + 1)) (sym e) (laid_snoc (marks_from p (take i (marks_of j))) (mark_at j i) r l)
+      rw k (subst (λ (ms : List Mark). Laid ms (set positions count (at j.positions i)) (set lanes count (at j.lanes i)) (count + 1)) (sym e) (laid_snoc (marks_from p (take i (marks_of j))) (mark_at j i) r l))
 
   pub laid_out_law : at j.positions i < p → Laid (marks_from p (take (i + 1) (marks_of j))) positions lanes count
   unfolding marks_from

@@ -49,6 +49,22 @@ copied_all (suc i) [] d h = sym (over_none d)
 copied_all (suc i) (x ∷ s) [] h = refl
 copied_all (suc i) (x ∷ s) (y ∷ d) h = ap (λ (l : List ℕ). x ∷ l) (copied_all i s d (le_of_suc-le-suc h))
 
+pub copied_full : (i : ℕ) (s d : List ℕ) → length d ≤ i → copied_to i s d ≡ over s d
+unfolding copied_to over
+copied_full zero s [] h = refl
+copied_full zero s (y ∷ d) h = absurd (not-suc-le-zero h)
+copied_full (suc i) [] d h = sym (over_none d)
+copied_full (suc i) (x ∷ s) [] h = refl
+copied_full (suc i) (x ∷ s) (y ∷ d) h = ap (λ (l : List ℕ). x ∷ l) (copied_full i s d (le_of_suc-le-suc h))
+
+-- as many bytes as the shorter of both has
+pub copied_shorter : (s d : List ℕ) (n : ℕ) → n ≡ min (length s) (length d) → copied_to n s d ≡ over s d
+copied_shorter s d n e =
+    elim (cases_lt (length s) (length d)) [
+      | inl h ↦ copied_all n s d (omega arith)
+      | inr h ↦ copied_full n s d (omega arith)
+    ]
+
 pub length_over : (s d : List ℕ) → length (over s d) ≡ length d
 unfolding over
 length_over s d = length-append (take (length d) s) (drop (length (take (length d) s)) d) ∙ simp (length-take, length-drop) (omega arith)

@@ -8,4 +8,5 @@ pub mod LittleLaws
 pub mod WidthLaws
 pub mod PartLaws
 pub mod CopyLaws
+pub mod Build
 pub mod SameLaws

@@ -3,15 +3,15 @@
 use mathlib.Core.Path.{◌≡◌, refl, sym, ap, ap₂, ◌∙◌}
 use mathlib.Core.Bool.{Bool, true, false, ◌&&◌}
 use mathlib.Core.List.{List, [], ◌∷◌}
-use Prim.Native.Nat.{ℕ, zero, suc, ◌+◌, ◌<◌, ◌≤◌}
-use native.Mathlib.Numerals.{add-one}
+use Prim.Native.Nat.{ℕ, zero, suc, ◌+◌, ◌-◌, ◌<◌, ◌≤◌}
+use native.Mathlib.Numerals.{add-one, unary_clauses}
 use native.Mathlib.Omega.{arith}
 use borrow.Author.Tests.{eq-eqb, ne_eqb, eqb-true, eqb-false}
 use lib.Bits.{bit_xor, bit_or, xor_self}
 use lib.Dec.{eqb, eqb-suc-zero}
 use Rattle.std.proofs.lemmas.Nat.{le_or_l}
-use lib.ListN.{length, get_or, drop, drop_of_length-le}
-use lib.Seq.{drop-cons}
+use lib.ListN.{length, get_or, take, drop, drop_of_length-le}
+use lib.Seq.{drop-cons, take-length}
 use Rattle.octets.specs.Bytes.{same_bytes}
 use Rattle.octets.proofs.BoolLaws.{and_assoc, and_true, and_false}
 use Rattle.octets.proofs.XorLaws.{xor_none}
@@ -23,6 +23,10 @@ xor_test x y false e = ne_eqb (bit_xor x y) 0 (λ z. eqb-false x y e (xor_none x
 or_test : (d x y : ℕ) → eqb (bit_or d (bit_xor x y)) 0 ≡ eqb d 0 && eqb x y
 or_test zero x y = xor_test x y (eqb x y) refl
 or_test (suc d) x y = ne_eqb (bit_or (suc d) (bit_xor x y)) 0 (λ z. omega (arith, le_or_l (suc d) (bit_xor x y), z)) ∙ ap (λ (b : Bool). b && eqb x y) (sym (eqb-suc-zero d))
+
+-- a string less none of its bytes
+pub whole : (k : ℕ) (s : List ℕ) → k ≡ 0 → take (length s - k) (drop k s) ≡ s
+whole k s e = rw e (simp unary_clauses (take-length s))
 
 -- a byte more of a comparison
 pub same_turn : (d i : ℕ) (s t : List ℕ) → i < length s → length s ≡ length t

@@ -59,8 +59,11 @@ pub fn byte_at(s: &[u8], i: usize) -> u8
 pub fn copy(src: &[u8], dst: &mut [u8])
     ensures { dst.new ≡ over src.now dst.old }
 {
+    // A loop, which the compiler makes a memcpy: `copy_from_slice` is a memmove, a name that a host may not have.
     let n = src.len().min(dst.len());
-    dst[..n].copy_from_slice(&src[..n]);
+    for i in 0..n {
+        dst[i] = src[i];
+    }
 }
 
 // The first N bytes of s, with zeros past its end.

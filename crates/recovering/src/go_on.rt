@@ -39,12 +39,19 @@ fn after_version(second: bool) -> Due
     number_due(RecoverNumber::N)
 }
 
-// Whether every number handed out is visible: W = V of every lane.
+// Whether every number handed out is visible: W = V of every lane. A loop over each of them, and no chain: of `all` the compiler
+// makes a call of memcmp, a name that a host may not have.
 #[tactic(auto, unfolding(protocol::specs::Recover::all_visible))]
 fn all_visible(x: Vault) -> bool
     ensures { result ≡ all_visible x }
 {
-    (0..LANES).all(|lane| vault::lane_at(x.w, lane) == vault::lane_at(x.v, lane))
+    let mut good = true;
+    for lane in 0..LANES {
+        let w = vault::lane_at(x.w, lane);
+        let v = vault::lane_at(x.v, lane);
+        good &= w == v;
+    }
+    good
 }
 
 // Behind R of a lane: R of the next, and behind the last E, or the emptying where every number is visible. Not one function with

@@ -16,7 +16,7 @@ use borrow.Rule.Slice.PartMut.{mid_of}
 use lib.Dec.{leb, eqb}
 use lib.ListN.{length, take, drop, length-append, length-drop, drop_of_length-le}
 use lib.Seq.{drop_at, length-take-le}
-use Rattle.octets.specs.Lists.{at, put_over}
+use Rattle.octets.specs.Lists.{at, tab, put_over}
 use Rattle.octets.specs.Bytes.{padded, same_bytes}
 use Rattle.octets.specs.Little.{little, little_bytes}
 use Rattle.octets.proofs.BoolLaws.{and_left, and_true}
@@ -42,6 +42,14 @@ use Rattle.sealed.specs.declared.file.Short.{Short}
 use Rattle.sealed.proofs.FrameTrip.{Grows, Opens, aes_grows, aes_opens, length_framed, frame_trip, prepared_framed, prepared_unframed}
 
 -- ---- the head
+
+-- its bytes, one after the other
+abbrev head_laid : List ℕ → List ℕ → List ℕ
+head_laid v i = file_kind ∷ 0 ∷ 0 ∷ 0 ∷ (tab 8 (at v) ++ tab 8 (at i))
+
+pub head_laid_law : (version seal : ℕ) {v i : List ℕ} → v ≡ little_bytes 8 version → i ≡ little_bytes 8 seal → head_laid v i ≡ file_head version seal
+unfolding little_bytes file_head
+head_laid_law version seal ev ei = ap₂ head_laid ev ei
 
 pub length_head : (version seal : ℕ) → length (file_head version seal) ≡ head_len
 unfolding file_head

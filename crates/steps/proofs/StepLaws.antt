@@ -1,13 +1,13 @@
 -- Each way out of one store's step (01, Operations) is the definition's.
 -- Assumes nothing.
-use Rattle.std.specs.Prelude.{Bool, true, false, cond, Option, Some, None, Result, Ok, Err}
+use Rattle.std.specs.Prelude.{Option, Some, None}
 use Prim.Native.Nat.{ℕ, suc, ◌+◌, ◌≤◌, ◌<◌}
-use mathlib.Core.Path.{◌≡◌, refl, sym, ◌∙◌}
+use mathlib.Core.Path.{◌≡◌, refl, ◌∙◌}
 use mathlib.Core.List.{List, []}
 use native.Mathlib.Numerals.{add-one}
 use native.Mathlib.Omega.{arith}
-use borrow.Author.Tests.{le-leb, lt-leb}
-use lib.Dec.{leb, ltb}
+use borrow.Author.Tests.{le-leb, lt-leb, lt-ltb, le-ltb}
+use lib.Dec.{leb}
 use lib.ListN.{length}
 use Rattle.octets.specs.Lists.{put_over}
 use Rattle.transaction.specs.Transaction.{meters}
@@ -15,7 +15,6 @@ use Rattle.table.specs.declared.Table.{Table}
 use Rattle.table.specs.TableText.{table_text}
 use Rattle.table.proofs.TextLaws.{length_table}
 use Rattle.sealed.specs.Aead.{aes_gcm}
-use Rattle.sealed.specs.declared.file.Short.{Short}
 use Rattle.sealed.specs.Checkpoint.{file_len, file_head, file_nonce, file_bytes, file_answer, file_put}
 use Rattle.sealed.proofs.FrameTrip.{aes_grows, length_framed}
 use Rattle.sealed.proofs.FileLaws.{length_head}
@@ -108,37 +107,23 @@ module _ (c : State) (next : Due) where
     unfolding shown_as shown number_of values_of file_step refuse
     file_spent h = let e = le-leb counter_max c.vault.s h in (rw e, rw e)
 
-    -- put is what the file's sealing answered, and q the buffer behind it
-    module _ (good : c.vault.s < counter_max) {put : Result ℕ Short} (is : put ≡ file_answer (length o)) {q : List ℕ}
-        (left : q ≡ put_over (file_put (file_answer (length o)) (file_bytes (aes_gcm c.key) (c.vault.s + 1) c.vault.n c.table)) o) where
-      put_is : {b : Bool} → ltb (length o) file_len ≡ b → put ≡ cond b (Err (record { needed = file_len })) (Ok file_len)
-      unfolding file_answer
-      put_is t = is ∙ rw t
+    module _ (good : c.vault.s < counter_max) where
+      -- no room for the file
+      pub file_short : length o < file_len
+          → (shown_as (refused_with c (R.Length file_len)) (file_step c (length o) next).put ≡ file_step c (length o) next) × (o ≡ put_over (file_step c (length o) next).put o)
+      unfolding shown_as shown number_of values_of file_step refuse
+      file_short short =
+          let e = lt-leb counter_max c.vault.s good in
+          let t = lt-ltb (length o) file_len short in
+          (rw (e, t), rw (e, t))
 
-      left_is : q ≡ put_over (file_put put (file_bytes (aes_gcm c.key) (c.vault.s + 1) c.vault.n c.table)) o
-      left_is = rw is left
-
-      pub file_short : {why : Short} → put ≡ Err why
-          → (shown_as (refused_with c (R.Length file_len)) (file_step c (length o) next).put ≡ file_step c (length o) next) × (q ≡ put_over (file_step c (length o) next).put o)
-      unfolding shown_as shown number_of values_of file_step refuse file_put
-      file_short {why} h = by_test (ltb (length o) file_len) refl
-        where
-          by_test : (b : Bool) → ltb (length o) file_len ≡ b
-              → (shown_as (refused_with c (R.Length file_len)) (file_step c (length o) next).put ≡ file_step c (length o) next) × (q ≡ put_over (file_step c (length o) next).put o)
-          by_test true t = let e = lt-leb counter_max c.vault.s good in (rw (e, t), rw (e, t) (rw h at left_is))
-          by_test false t = let z = sym h ∙ put_is t in cc
-
-      pub file_taken : {n : ℕ} → put ≡ Ok n → length (file_bytes (aes_gcm c.key) (c.vault.s + 1) c.vault.n c.table) ≡ file_len
-          → (shown_as (taken_with (with_vault c c.vault next) S.File n) (file_step c (length o) next).put ≡ file_step c (length o) next) × (q ≡ put_over (file_step c (length o) next).put o)
-      unfolding shown_as shown file_step refuse table_file file_put
-      file_taken {n} h long = by_test (ltb (length o) file_len) refl
-        where
-          by_test : (b : Bool) → ltb (length o) file_len ≡ b
-              → (shown_as (taken_with (with_vault c c.vault next) S.File n) (file_step c (length o) next).put ≡ file_step c (length o) next) × (q ≡ put_over (file_step c (length o) next).put o)
-          by_test true t = let z = sym h ∙ put_is t in cc
-          by_test false t =
-              let e = lt-leb counter_max c.vault.s good in
-              let z = sym h ∙ put_is t in
-              let k : n ≡ file_len = cc in
-              let g = rw h at left_is in
-              (rw (e, t, k, ← add-one c.vault.s, long), rw (e, t, ← add-one c.vault.s) g)
+      -- the file is put out, and q is the buffer behind it
+      pub file_taken : file_len ≤ length o → length (file_bytes (aes_gcm c.key) (c.vault.s + 1) c.vault.n c.table) ≡ file_len → {q : List ℕ}
+          → q ≡ put_over (file_put (file_answer (length o)) (file_bytes (aes_gcm c.key) (c.vault.s + 1) c.vault.n c.table)) o
+          → (shown_as (taken_with (with_vault c c.vault next) S.File file_len) (file_step c (length o) next).put ≡ file_step c (length o) next) × (q ≡ put_over (file_step c (length o) next).put o)
+      unfolding shown_as shown file_step refuse table_file file_answer file_put
+      file_taken room long left =
+          let e = lt-leb counter_max c.vault.s good in
+          let t = le-ltb (length o) file_len room in
+          let g = rw t at left in
+          (rw (e, t, ← add-one c.vault.s, long), rw (e, t, ← add-one c.vault.s) g)

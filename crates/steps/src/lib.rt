@@ -134,7 +134,7 @@ pub fn put_table(
 }
 
 // Puts the file out, with version S + 1 and N as its seal number. It refuses an S at the maximum (1), and an output
-// with no room for the file (3); the state then stays as it is.
+// with no room for the file (3), before the key is prepared; the state then stays as it is.
 pub fn file_step(c: &mut State, next: Due, out: &mut [u8]) -> Outcome
     ensures answer { shown_as (record { state = c.new; outcome = result }) (file_step c.old (length out.old) next).put ≡ file_step c.old (length out.old) next }
     ensures bytes { out.new ≡ put_over (file_step c.old (length out.old) next).put out.old }
@@ -143,14 +143,15 @@ pub fn file_step(c: &mut State, next: Due, out: &mut [u8]) -> Outcome
     if COUNTER_MAX <= s {
         return Err(Refusal::Condition);
     }
+    if out.len() < FILE_LEN {
+        return Err(Refusal::Length { right: FILE_LEN });
+    }
     let version = s + 1;
     let seal = c.vault.n;
-    let Ok(len) = put_table(c.key, version, seal, c.table, out) else {
-        return Err(Refusal::Length { right: FILE_LEN });
-    };
+    let _ = put_table(c.key, version, seal, c.table, out);
     c.due = next;
     Ok(Taken {
         store: Store::File,
-        len,
+        len: FILE_LEN,
     })
 }

@@ -11,13 +11,12 @@ mod text;
 ghost use Rattle.std.specs.Prelude.{◌≤◌};
 ghost use Rattle.vectors.specs.Tally.{Single};
 
-use gcm::OpenError;
-use std::alloc::{AllocError, Global};
+use gcm::{OpenError, TAG_LEN};
 use std::fs::File;
 use std::io::Read;
 use std::rt::Files;
 use std::{fmt, io};
-use text::{Flaw, array, bytes, field};
+use text::{MOST, array, bytes, field};
 
 // How a vector does: it agrees, it agrees where NIST has the decryption fail, or it does not agree.
 #[derive(Clone, Copy, PartialEq, Eq)]
@@ -69,36 +68,43 @@ impl fmt::Display for Tally {
 // What stands in a lent buffer that a decryption is to leave as it was, but for the text.
 const BEFORE: u8 = 0xa5;
 
-// What is lent behind the bytes that a call writes, and is to stay.
-const BEHIND: [u8; 16] = [0u8; 16];
+// The longest text and its tag.
+const SEALED: usize = MOST + TAG_LEN;
+
+// a, with b behind it, at the start of as many zeros as hold the longest text and its tag.
+fn joined(a: &[u8], b: &[u8]) -> [u8; SEALED] {
+    let mut joined = [0u8; SEALED];
+    for (place, byte) in joined.iter_mut().zip(a.iter().chain(b)) {
+        *place = *byte;
+    }
+    joined
+}
 
 // A line of the AES set: set key plaintext ciphertext.
-fn enciphers(alloc: Global, line: &[u8]) -> Result<Verdict, Flaw> {
-    let key: [u8; 16] = array(alloc, field(line, 1))?;
-    let plain: [u8; 16] = array(alloc, field(line, 2))?;
-    let want: [u8; 16] = array(alloc, field(line, 3))?;
+fn enciphers(line: &[u8]) -> Option<Verdict> {
+    let key: [u8; 16] = array(field(line, 1))?;
+    let plain: [u8; 16] = array(field(line, 2))?;
+    let want: [u8; 16] = array(field(line, 3))?;
     let w = aes_key::key_expansion(key);
     let got = octets::block_bytes(aes::encrypt(&w, octets::first_block(&plain)));
-    Ok(Verdict::from(got == want))
+    Some(Verdict::from(got == want))
 }
 
 // A line of the encryptions: key iv plaintext aad ciphertext tag. The text is encrypted in place, and the tag put behind it.
-fn seals(alloc: Global, line: &[u8]) -> Result<Verdict, Flaw> {
-    let key: [u8; 16] = array(alloc, field(line, 0))?;
-    let iv: [u8; 12] = array(alloc, field(line, 1))?;
-    let mut buf = bytes(alloc, field(line, 2))?;
-    let aad = bytes(alloc, field(line, 3))?;
-    let mut want = bytes(alloc, field(line, 4))?;
-    let tag: [u8; 16] = array(alloc, field(line, 5))?;
-    let n = buf.len();
-    buf.extend_from_slice(&[0u8; 16])?;
-    buf.extend_from_slice(&BEHIND)?;
-    want.extend_from_slice(&tag)?;
-    want.extend_from_slice(&BEHIND)?;
+fn seals(line: &[u8]) -> Option<Verdict> {
+    let key: [u8; 16] = array(field(line, 0))?;
+    let iv: [u8; 12] = array(field(line, 1))?;
+    let plain = bytes(field(line, 2))?;
+    let aad = bytes(field(line, 3))?;
+    let want = bytes(field(line, 4))?;
+    let tag: [u8; 16] = array(field(line, 5))?;
+    let n = plain.len();
+    let mut buf = joined(plain.as_slice(), b"");
     let done = gcm::prepare(key)
-        .seal(iv, aad.as_slice(), buf.as_mut_slice(), n)
+        .seal(iv, aad.as_slice(), &mut buf, n)
         .is_ok();
-    Ok(Verdict::from(done && buf == want))
+    let all = joined(want.as_slice(), &tag);
+    Some(Verdict::from(done && want.len() == n && buf == all))
 }
 
 // Whether what was lent starts with these bytes, and what stands behind them is as it was.
@@ -110,35 +116,32 @@ fn holds(lent: &[u8], text: &[u8]) -> bool {
 }
 
 // A line of the decryptions: key iv ciphertext aad tag plaintext, or FAIL for the plaintext.
-fn opens(alloc: Global, line: &[u8]) -> Result<Verdict, Flaw> {
-    let key: [u8; 16] = array(alloc, field(line, 0))?;
-    let iv: [u8; 12] = array(alloc, field(line, 1))?;
-    let mut sealed = bytes(alloc, field(line, 2))?;
-    let aad = bytes(alloc, field(line, 3))?;
-    let tag: [u8; 16] = array(alloc, field(line, 4))?;
-    sealed.extend_from_slice(&tag)?;
-    let mut out = vec![in alloc; BEFORE; sealed.len()]?;
-    let answer = gcm::prepare(key).open(iv, aad.as_slice(), sealed.as_slice(), out.as_mut_slice());
+fn opens(line: &[u8]) -> Option<Verdict> {
+    let key: [u8; 16] = array(field(line, 0))?;
+    let iv: [u8; 12] = array(field(line, 1))?;
+    let cipher = bytes(field(line, 2))?;
+    let aad = bytes(field(line, 3))?;
+    let tag: [u8; 16] = array(field(line, 4))?;
+    let all = joined(cipher.as_slice(), &tag);
+    let sealed = all.get(..cipher.len() + TAG_LEN)?;
+    let mut out = [BEFORE; MOST];
+    let answer = gcm::prepare(key).open(iv, aad.as_slice(), sealed, &mut out);
     let wanted = field(line, 5);
     if matches!(wanted, b"FAIL") {
-        let fails = answer == Err(OpenError::Fail) && holds(out.as_slice(), b"");
-        return Ok(if fails {
+        let fails = answer == Err(OpenError::Fail) && holds(&out, b"");
+        return Some(if fails {
             Verdict::Refused
         } else {
             Verdict::Differs
         });
     }
-    let want = bytes(alloc, wanted)?;
+    let want = bytes(wanted)?;
     let opened = answer == Ok(want.len());
-    Ok(Verdict::from(opened && holds(out.as_slice(), want.as_slice())))
+    Some(Verdict::from(opened && holds(&out, want.as_slice())))
 }
 
-// The tally of a file's text, line by line, each by the test of its set.
-fn counted<F: Fn(Global, &[u8]) -> Result<Verdict, Flaw>>(
-    alloc: Global,
-    s: &[u8],
-    test: F,
-) -> Result<Tally, AllocError>
+// The tally of a file's text, line by line, each by the test of its set. A line that is not well formed does not agree.
+fn counted<F: Fn(&[u8]) -> Option<Verdict>>(s: &[u8], test: F) -> Tally
     requires { F.IsAlwaysCallable test }
 {
     let mut tally = Tally::default();
@@ -147,31 +150,33 @@ fn counted<F: Fn(Global, &[u8]) -> Result<Verdict, Flaw>>(
         if line.starts_with(b"#") {
             continue;
         }
-        match test(alloc, line) {
-            Ok(verdict) => tally.add(verdict),
-            Err(Flaw::Malformed) => tally.add(Verdict::Differs),
-            Err(Flaw::Memory(e)) => return Err(e),
-        }
+        tally.add(test(line).unwrap_or(Verdict::Differs));
     }
-    Ok(tally)
+    tally
 }
 
+// The most bytes of a file that are read.
+const FILE: usize = 65536;
+
 // The tally of a file, of its first 65536 bytes. Where it cannot be opened, standard error says why, and it has no lines.
-fn run<R: Files + Eprint + AllocGlobal, F: Fn(Global, &[u8]) -> Result<Verdict, Flaw>>(
+// Not inlined: main would hold the bytes of two files at a time.
+#[inline(never)]
+fn run<R: Files + Eprint, F: Fn(&[u8]) -> Option<Verdict>>(
     rt: &R,
     path: &str,
     test: F,
 ) -> io::Result<Tally>
     requires { F.IsAlwaysCallable test }
 {
-    let mut text = Vec::new(rt.alloc());
-    match File::open(rt, path) {
-        Ok(file) => {
-            file.take(65536).read_to_end(&mut text)?;
+    let mut text = [0u8; FILE];
+    let n = match File::open(rt, path) {
+        Ok(file) => io::copy(&mut file.take(FILE as u64), &mut &mut text[..])?,
+        Err(e) => {
+            eprintln!(rt; "{path}: {e}")?;
+            0
         }
-        Err(e) => eprintln!(rt; "{path}: {e}")?,
-    }
-    Ok(counted(rt.alloc(), text.as_slice(), test)?)
+    };
+    Ok(counted(text.get(..n as usize).unwrap_or(&text), test))
 }
 
 fn main(rt: HostRuntime) -> io::Result<()> {

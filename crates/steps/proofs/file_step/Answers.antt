@@ -8,15 +8,15 @@ returns-then-s-ge-COUNTER_MAX c =
     let w = file_spent a.c.now a.next a.out.now c.if-s-ge-COUNTER_MAX.true in
     record { answer = w.0; bytes = w.1 }
 
-pub returns-in_default : goal.returns-in_default
-returns-in_default c =
+pub returns-then-out-lt-FILE_LEN : goal.returns-then-out-lt-FILE_LEN
+returns-then-out-lt-FILE_LEN c =
     let a = c.args in
-    let w = file_short a.c.now a.next a.out.now c.if-s-ge-COUNTER_MAX.false c.put_table.ensures.answer c.put_table.ensures.buffer c.in_default.is in
+    let w = file_short a.c.now a.next a.out.now c.if-s-ge-COUNTER_MAX.false c.if-out-lt-FILE_LEN.true in
     record { answer = w.0; bytes = w.1 }
 
 pub returns : goal.returns
 returns c =
     let a = c.args in
     let p = c.put_table.ensures in
-    let w = file_taken a.c.now a.next a.out.now c.if-s-ge-COUNTER_MAX.false p.answer p.buffer c.in-Ok.is p.long in
+    let w = file_taken a.c.now a.next a.out.now c.if-s-ge-COUNTER_MAX.false c.if-out-lt-FILE_LEN.false p.long p.buffer in
     record { answer = w.0; bytes = w.1 }

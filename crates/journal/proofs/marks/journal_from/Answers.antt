@@ -39,7 +39,7 @@ loop-p-preserved-then-position-p c =
       few = omega arith;
       long = simp length-set l.invariant.long;
       wide = simp length-set l.invariant.wide;
-      laid = rw (p_is, lane_is) (laid_in c.args.position j m l.invariant.laid (omega (arith, c.listed_in-n.ensures.room)) (omega (arith, p_is, c.if-position-p.true)));
+      laid = rw (p_is, lane_is) (laid_in c.args.position j m l.invariant.laid (omega arith) (omega (arith, c.listed_in-n.ensures.room)) (omega (arith, p_is, c.if-position-p.true)));
     })
 
 pub loop-p-preserved : goal.loop-p-preserved
