@@ -1,7 +1,7 @@
 #!/bin/sh
-# What make lists; what `make install` leaves: the list of files, a C program that knows them by pkg-config alone, the man page, and
-# `make uninstall`. Then what `make lib` shows, and the build in a second folder, whose archive must be the same byte for byte. A
-# line each.
+# What make lists; what the archives need from outside; what `make install` leaves: the list of files, a C program that knows them
+# by pkg-config alone, the man page, and `make uninstall`. Then what `make lib` shows, and the build in a second folder, whose
+# archive must be the same byte for byte. A line each.
 # Run from the repository's top, while no rt runs in it; the library is built before.
 set -eu
 
@@ -37,6 +37,17 @@ for target in $(sed -n 's/^\.PHONY: //p' Makefile); do
     [ "$target" = help ] || grep -q "make $target\b" README.md || fail "README.md does not name make $target"
 done
 echo "install: make alone lists $(wc -l <"$place/help") commands"
+
+# ---- what the archives need from outside ----
+
+# A host may have no C library (docs/DECISIONS.md): an archive may need these two names, and no other.
+for archive in target/staticlib/lib*.a; do
+    nm -u "$archive" | sed -n 's/^ *U //p' | sort -u >"$place/names"
+    [ -s "$place/names" ] || fail "nm shows no name that $archive needs: it is not read as it was"
+    other=$(grep -vx 'memcpy\|memset' "$place/names" | tr '\n' ' ') || true
+    [ -z "$other" ] || fail "$archive needs another name from outside: $other"
+done
+echo "install: $(ls target/staticlib/lib*.a | wc -l) archives need memcpy and memset from outside, and no other name"
 
 # ---- the files ----
 
